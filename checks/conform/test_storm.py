@@ -40,7 +40,7 @@ def ran(line: list[str]) -> subprocess.CompletedProcess[str]:
 
 def test_broker_loses_nothing(storm: Path, served: str, replay: Path, tmp_path: Path) -> None:
     """osb-broker loses nothing, whether it creates at once or by a worker. Each request of both storms is in a journal,
-    and the journals of both sides are as the model says.
+    and the journals of both sides are as the model and the tables of updates say.
     """
     listed = f"ls {tmp_path / 'state' / 'instances'}"
     files = "--json", str(tmp_path / "json"), "--journal", str(tmp_path / "journals")
@@ -50,10 +50,33 @@ def test_broker_loses_nothing(storm: Path, served: str, replay: Path, tmp_path: 
         report = json.loads((tmp_path / "json").read_text())
         assert (report["lost"], report["false_records"], report["broken"], report["leftovers"]) == ([], [], [], [])
         assert report["converged"] and report["instances"] == 20 and report["bindings"] > 0 and report["requests"] > 40
+        assert report["updates"] > 0
         assert f"Each id begins with {report['prefix']}. The seed is 1.\n" in done.stdout
     audit = audited(tmp_path / "journals", replay)
     assert audit["instances"] == 40 and audit["events"] > 400, audit
     assert not any("no journal" in note for note in audit["notes"]), audit
+
+
+def settings_of(state: Path) -> str:
+    """A command that prints the settings of the folders that were updated."""
+    return f'cd {state}/instances/.settings && for id in *-*; do echo "$id $(cat "$id")"; done'
+
+
+@pytest.mark.parametrize("without", [(), ("--without", "numbers")], ids=["numbers", "no numbers"])
+def test_settings(storm: Path, served: str, tmp_path: Path, without: tuple[str, ...]) -> None:
+    """Under faults, folders have the settings that osb-broker has reported. A command that prints others is found."""
+    listed = "--list-command", f"ls {tmp_path / 'state' / 'instances'}"
+    settings = settings_of(tmp_path / "state")
+    wrong = f"({settings}) | sed '/^[0-9a-f]*-0000-/!s/.$/-/'"  # not of the instance that is tried without faults
+    for text, status in (settings, 0), (wrong, 1):
+        arguments = *listed, "--settings-command", text, "--json", str(tmp_path / "json"), *without
+        done = ran(command(storm, served, "--service", "folder", "--plan", "by-worker", *arguments))
+        assert done.returncode == status, done.stdout + done.stderr
+        report = json.loads((tmp_path / "json").read_text())
+        assert (report["lost"], report["false_records"], report["false_settings"]) == ([], [], [])
+        assert report["updates"] > 5 and report["notes"] == []
+        assert (report["half_updated"] != []) == (status == 1)
+    assert re.search("^HALF UPDATED: instance .* has plan .*, which nobody has asked for$", done.stdout, re.MULTILINE)
 
 
 def test_lost(storm: Path, tmp_path: Path) -> None:
@@ -193,8 +216,9 @@ def test_statuses(storm: Path, tmp_path: Path) -> None:
             ["--journal", str(tmp_path / "faults")],
             ["--list-command", "ls /nonexistent"],
             ["--list-command", "true"],
+            ["--without", "plans"],
         ):
             done = ran(command(storm, small.url, *wrong))
-            status = 2 if wrong[0] in ("--instances", "--fault-percent") else 78
+            status = 2 if wrong[0] in ("--instances", "--fault-percent", "--without") else 78
             assert (done.returncode, done.stderr.count("\n")) == (status, 1), (wrong, done.stderr)
         assert small.instances == set()

@@ -19,14 +19,16 @@ type brokerSettings struct {
 
 const brokerHelp = `Let a platform drive a broker through a network that loses, delays, repeats and garbles requests and
 answers, and find out what was lost: instances and bindings that exist without a record, records that say ready though
-nothing exists, and answers that break the Open Service Broker API 2.17.
+nothing exists, instances that have other settings than the broker has reported, and answers that break the Open Service
+Broker API 2.17.
 
 The platform is the one of osb-platform, with a store in a temporary folder. After --seconds the faults end, and
 osb-storm waits until everything has converged. Each instance and binding has an id that begins with a random prefix,
 which is printed first. All of them are deleted at the end, also after SIGINT, SIGTERM or SIGHUP. A second SIGINT or
 SIGTERM ends the deletions, too.
 
-To find out what exists, give --list-command. Without it, osb-storm asks the broker for each instance.
+To find out what exists, give --list-command. Without it, osb-storm asks the broker for each instance. To find out which
+settings the instances have, give --settings-command.
 
 With --journal, the platform writes its journal, which osb-audit compares with that of osb-broker. The platform then also
 deletes everything that its records name, before osb-storm deletes the rest.
@@ -37,11 +39,12 @@ is started in the foreground needs & at the end of its command.
 environment:
   OSB_BROKER_PASSWORD      the password, if --password-file isn't given
 
-exit status: 0 nothing was lost; 1 something was lost, a record was false, an answer broke a MUST, not everything
-converged, something couldn't be asked for, no request had a fault though --fault-percent or --faults asks for some, or
-a signal ended the run; 2 the command line can't be parsed; 3 an instance or a binding could not be deleted, and standard
-output lists it; 69 the broker can't be reached; 78 change something first: an option, a file, a name, a plan that can't
-be created without faults, or a command that doesn't list what exists; 70 any other error`
+exit status: 0 nothing was lost; 1 something was lost, a record or settings were false, an instance was half updated,
+an answer broke a MUST, not everything converged, something couldn't be asked for, no request had a fault though
+--fault-percent or --faults asks for some, or a signal ended the run; 2 the command line can't be parsed; 3 an
+instance or a binding could not be deleted, and standard output lists it; 69 the broker can't be reached; 78 change
+something first: an option, a file, a name, a plan that can't be created without faults, or a command that doesn't
+list what exists or the settings; 70 any other error`
 
 func brokerCommand(v *cli.Verdict) *cobra.Command {
 	s := &brokerSettings{}
@@ -57,6 +60,11 @@ func (s *brokerSettings) add(made *cobra.Command) {
 		"a `command` that prints the id of each instance that exists, one on a line")
 	flags.StringVar(&commands.ListBindings, "list-bindings-command", "",
 		"a `command` that prints the ids of the instance and the binding for each binding that exists")
+	flags.StringVar(&commands.Settings, "settings-command", "",
+		"a `command` that prints the id of each instance that was updated, a space, and its settings as an object of JSON "+
+			"with plan_id, parameters and version")
+	flags.Var(choiceOf(&options.Without, "", run.WithoutUpdates, run.WithoutNumbers), "without",
+		"what is left out: updates of instances, or the numbers of Updates (x-osb-update)")
 	flags.StringVar(&commands.Restart, "restart-command", "",
 		"a `command` that kills the broker and starts it again; it is run at random moments")
 	flags.StringVar(&commands.Kill, "kill-command", "", "a `command` that kills the broker; with --start-command")

@@ -19,6 +19,7 @@ var accessCases = scenario{
 		{"auth-provision", sectionAccess, Must, "401 to a Provision with a wrong password, and without one"},
 		{"auth-last-operation", sectionAccess, Must, "401 to a Poll without a password"},
 		{"auth-fetch", sectionAccess, Must, "401 to a Fetch of an instance without a password"},
+		{"auth-update", sectionAccess, Must, "401 to an Update without a password"},
 		{"auth-bind", sectionAccess, Must, "401 to a Bind without a password"},
 		{"auth-binding-last-operation", sectionAccess, Must, "401 to a Poll of a binding without a password"},
 		{"auth-fetch-binding", sectionAccess, Must, "401 to a Fetch of a binding without a password"},
@@ -48,6 +49,7 @@ func (r *Runner) accessToInstances() {
 	r.wants("auth-provision", r.create(k, r.target.Pair, wrong), 401)
 	if r.accessTo(k, "auth-provision", "auth-last-operation", "auth-fetch", r.target.InstancesRetrievable) {
 		r.skip(reasonNotFetched, "auth-fetch")
+		r.accessToUpdates(k)
 		r.accessToBindings(k)
 		r.askAnonymously("auth-deprovision", deletion(k, r.target.Pair, true)) // CleanUp deletes it, whatever the answer says
 	}
@@ -109,6 +111,17 @@ func (r *Runner) accessToPolls(name string, k key, created *exchange) {
 		return
 	}
 	r.wants(name, x, 401)
+}
+
+// accessToUpdates judges the answer to an Update without a password. A broker may not have the endpoint if the catalogue
+// doesn't say that the plan is updateable.
+func (r *Runner) accessToUpdates(k key) {
+	x := r.send(anonymous(r.updated(k.instance).patch(nil)))
+	if !r.target.Updateable && x.is(404, 405, 501) {
+		r.skip("the broker has no such endpoint, and the plan isn't plan_updateable", "auth-update")
+		return
+	}
+	r.wants("auth-update", x, 401)
 }
 
 func (r *Runner) askAnonymously(name string, sent request) {

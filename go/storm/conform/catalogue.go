@@ -161,12 +161,21 @@ func checkFlags(services []object) string {
 			if value, has := plan["maximum_polling_duration"]; has && problem == "" && !isWhole(value) {
 				problem = "maximum_polling_duration is no whole number"
 			}
+			if value, has := plan[maintenanceMember]; has && problem == "" && versionIn(value) == "" {
+				problem = "maintenance_info is no object with the string version"
+			}
 		}
 		if problem != "" {
 			return fmt.Sprintf("service %q: %s", textIn(service, "name"), problem)
 		}
 	}
 	return ""
+}
+
+// versionIn returns the version that a maintenance_info has, or "".
+func versionIn(maintenance any) string {
+	of, _ := maintenance.(object)
+	return textIn(of, "version")
 }
 
 // wrongType returns a problem if one of these members is present and isn't a boolean, or metadata isn't an object.
@@ -235,11 +244,26 @@ type Target struct {
 	Bindable              bool
 	InstancesRetrievable  bool
 	BindingsRetrievable   bool
+	Updateable            bool        // plan_updateable: an instance may be updated to another plan of the service
+	Version               string      // of its maintenance_info, or empty for none
 	Catalogue             []byte      // the body of the answer
 	CatalogueHeader       http.Header // its header but the request's identity, if it could be read
 	HasCatalogue          bool        // the catalogue could be read
+	NumbersUpdates        bool        // the broker orders Updates by their numbers (x-osb-updates)
+	Plans                 []PlanVersion
 
 	other Pair // another plan, or an empty one
+}
+
+// A PlanVersion is a plan of the target's service, with the version of its maintenance_info, or an empty one.
+type PlanVersion struct{ Plan, Version string }
+
+// sibling is another plan of the service, or an empty pair.
+func (t Target) sibling() Pair {
+	if t.other.Service == t.Service {
+		return t.other
+	}
+	return Pair{}
 }
 
 // choose chooses the plan to order. If the catalogue has no plan at all and none is given, the target stays empty.
@@ -259,6 +283,12 @@ func (r *Runner) choose() error {
 		return fmt.Errorf("%w: service %q, plan %q", ErrNoPlan, r.options.Service, r.options.Plan)
 	}
 	r.target = all[at]
+	r.target.NumbersUpdates = r.fetched.object["x-osb-updates"] == true
+	for _, target := range all {
+		if target.Service == r.target.Service {
+			r.target.Plans = append(r.target.Plans, PlanVersion{target.Plan, target.Version})
+		}
+	}
 	for _, target := range all {
 		if target.Plan != r.target.Plan && (r.target.other.Plan == "" || target.Service == r.target.Service) {
 			r.target.other = target.Pair
@@ -297,9 +327,13 @@ func targetsOf(service object) (all []Target) {
 			ServiceName: textIn(service, "name"), PlanName: textIn(plan, "name"), Bindable: flag(service, "bindable"),
 			InstancesRetrievable: flag(service, "instances_retrievable"),
 			BindingsRetrievable:  flag(service, "bindings_retrievable"),
+			Updateable:           flag(service, "plan_updateable"), Version: versionIn(plan[maintenanceMember]),
 		}
 		if of, has := plan["bindable"].(bool); has {
 			it.Bindable = of
+		}
+		if of, has := plan["plan_updateable"].(bool); has {
+			it.Updateable = of
 		}
 		all = append(all, it)
 	}

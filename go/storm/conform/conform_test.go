@@ -79,12 +79,15 @@ func sortWords(names string) string {
 	return strings.Join(all, " ")
 }
 
-// A broker that satisfies the standard fails no case, and each case is run at a broker of one of the two kinds.
+// A broker that satisfies the standard fails no case, and each case is run at a broker of one of the three kinds.
 func TestModelPasses(t *testing.T) {
 	passed := map[string]bool{}
-	for _, async := range []bool{false, true} {
-		t.Run(fmt.Sprint(async), func(t *testing.T) {
-			m := newModel(async)
+	for name, m := range map[string]*model{
+		"synchronous": newModel(false), "asynchronous": newModel(true),
+		"not updateable": {lives: map[key]*life{}, isFixed: true},
+	} {
+		m := m
+		t.Run(name, func(t *testing.T) {
 			r := runnerFor(t, optionsFor(serve(t, m)))
 			for _, result := range ran(t, r).Results {
 				if result.Grade == Fail || result.Grade == NotRun && result.Reason == "" {
@@ -96,7 +99,7 @@ func TestModelPasses(t *testing.T) {
 		})
 	}
 	for _, test := range Cases() {
-		diff.Equal(t, passed[test.Name], true, "%s has run at either", test.Name)
+		diff.Equal(t, passed[test.Name], true, "%s has run at one of them", test.Name)
 	}
 }
 
@@ -162,6 +165,80 @@ func TestReasonsWithoutCatalogue(t *testing.T) {
 	}
 }
 
+// A case of an Update that a broker can't fail isn't run, and the reason says why.
+func TestUpdatesNotRun(t *testing.T) {
+	const fetches = "update-rejected-keeps update-parameters-fetched update-keeps-plan update-plan-fetched " +
+		"update-keeps-parameters"
+	const changes = "update-plan update-fields update-ends update-plan-fetched update-keeps-parameters update-repeated"
+	ofService := func(change func(service object)) func(*call) { return catalogs(func(s, _ object) { change(s) }) }
+	for _, test := range []struct {
+		name    string
+		isAsync bool
+		spoil   func(*call)
+		cases   string
+		reason  string
+	}{
+		{"no endpoint", false, both(ofService(func(s object) { delete(s, "plan_updateable") }),
+			at("patch", false, "ready", 200, gives(405))), "update-no-change update-plan provision-after-update",
+			"the plan isn't plan_updateable, and the broker answers an Update with 405"},
+		{"no endpoint for anybody", false, both(ofService(func(s object) { delete(s, "plan_updateable") }),
+			at("patch", false, "ready", 401, gives(404))), "auth-update",
+			"the broker has no such endpoint, and the plan isn't plan_updateable"},
+		{"nothing is fetched", false, ofService(func(s object) { s["instances_retrievable"] = false }),
+			fetches + " fetch-deleted fetch-fields", "the service isn't instances_retrievable"},
+		{"nothing is fetched during an Update", true, ofService(func(s object) { s["instances_retrievable"] = false }),
+			"async-fetch-during-update", "the service isn't instances_retrievable"},
+		{"a Fetch reports nothing", false, at("fetch", false, "ready", 200, func(c *call) { c.body = object{} }),
+			fetches, "no answer to a Fetch of the instance has these members"},
+		{"one plan", false, ofService(func(s object) { s["plans"] = s["plans"].([]any)[:1] }), changes,
+			"the service has no other plan"},
+		{"no version", false, ofService(func(s object) { delete(s["plans"].([]any)[0].(object), "maintenance_info") }),
+			"update-maintenance update-maintenance-conflict", "the plan has no maintenance_info"},
+		{"no parameters", false, at("patch", false, "ready", 200, only(hasParameters, gives(400))),
+			"update-parameters-fetched", "the parameters can't be updated"},
+		{"nobody knows the parameters", false, at("patch", false, "ready", 200, only(hasParameters, gives(500))),
+			"update-keeps-plan update-parameters-fetched", "no answer says which settings the instance has"},
+		{"nobody knows the plan", false, at("patch", false, "ready", 200, only(asksPlan("b"), gives(500))),
+			"provision-after-update provision-after-update-old", "no answer says which settings the instance has"},
+		{"every Update is rejected", false, both(ofService(func(s object) { delete(s, "plan_updateable") }),
+			at("patch", false, "ready", 200, only(func(c *call) bool { return !c.isSame }, gives(422)))),
+			"provision-after-update provision-after-update-old", "no Update has changed anything"},
+		{"no bindings", true, ofService(func(s object) { s["bindable"] = false }), "async-bind-during-update",
+			"the plan isn't bindable"},
+		{"it has ended before another one", true, at("patch", false, "updating", 422, goesOn), "async-update-during-update",
+			"the operation had ended before the answer"},
+		{"it is only once asynchronous", true, at("patch", false, "ready", 202, only(func(c *call) bool {
+			return asksPlan("b")(c) && c.life.asked["parameters"] == nil // as of a new instance
+		}, gives(500))), "async-update-repeated async-update-last-operation",
+			"the same Update wasn't asynchronous again"},
+	} {
+		test := test
+		t.Run(strings.ReplaceAll(test.name, " ", "-"), func(t *testing.T) {
+			m := newModel(test.isAsync)
+			m.spoil = test.spoil
+			r := runnerFor(t, optionsFor(serve(t, m)))
+			of := map[string]CaseResult{}
+			for _, result := range ran(t, r).Results {
+				of[result.Name] = result
+			}
+			for _, name := range strings.Fields(test.cases) {
+				diff.Equal(t, of[name].Grade, NotRun, "the grade of %s", name)
+				diff.Equal(t, of[name].Reason, test.reason, "%s", name)
+			}
+		})
+	}
+}
+
+func both(one, other func(*call)) func(*call) { return func(c *call) { one(c); other(c) } }
+
+// goesOn ends the Update that is in progress, and begins the one of the call.
+func goesOn(c *call) {
+	c.life.asked = c.life.to
+	c.life.to = object{"plan": c.life.asked["plan"], "parameters": c.sent["parameters"]}
+	c.life.number += 1000
+	c.give(202, object{"operation": fmt.Sprintf("operation %d", c.life.number)})
+}
+
 type mistake struct {
 	name  string
 	fails string // the cases that must fail, and no others, with spaces between
@@ -222,6 +299,20 @@ func lacksMember(member string) func(*call) bool {
 	}
 }
 
+// changes changes what an instance is set to.
+func changes(settings object) func(*call) {
+	return func(c *call) {
+		asked := object{}
+		for name, value := range c.life.asked {
+			asked[name] = value
+		}
+		for name, value := range settings {
+			asked[name] = value
+		}
+		c.life.asked = asked
+	}
+}
+
 // catalogs changes the first service, or the last plan.
 func catalogs(change func(service, plan object)) func(*call) {
 	return at("catalog", false, "", 200, func(c *call) {
@@ -240,6 +331,33 @@ func retries(text string) func(*call) { return func(c *call) { c.retry = text } 
 
 func hasHeader(name string) func(*call) bool {
 	return func(c *call) bool { return c.Header.Get(name) != "" }
+}
+
+// hasError makes a mistake if an answer has an error code.
+func hasError(code string) func(*call) bool {
+	return func(c *call) bool {
+		body, _ := c.body.(object)
+		return body["error"] == code
+	}
+}
+
+// during makes a mistake if the instance is in a state.
+func during(state string) func(*call) bool { return func(c *call) bool { return c.of == state } }
+
+func all(of ...func(*call) bool) func(*call) bool {
+	return func(c *call) bool {
+		for _, is := range of {
+			if !is(c) {
+				return false
+			}
+		}
+		return true
+	}
+}
+
+// reports makes a mistake if the answer to a Fetch has a plan.
+func reports(plan string) func(*call) bool {
+	return func(c *call) bool { return c.body.(object)["plan_id"] == plan }
 }
 
 func isMalformed(c *call) bool                 { return c.malformed }
@@ -265,12 +383,16 @@ var mistakes = []mistake{
 	{"tags are a string", "catalog-flags", false, catalogs(func(s, _ object) { s["tags"] = "t" })},
 	{"a permission of its own", "catalog-requires", false,
 		catalogs(func(s, _ object) { s["requires"] = []any{"syslog_drain", "fly"} })},
+	{"maintenance_info is a version", "catalog-flags", false,
+		catalogs(func(_, p object) { p["maintenance_info"] = "1.0.0" })},
+	{"maintenance_info has no version", "catalog-flags", false,
+		catalogs(func(_, p object) { p["maintenance_info"] = object{"description": "d"} })},
 	{"a name has a space", "catalog-names-for-cli", false, catalogs(func(_, p object) { p["name"] = "plan c" })},
 
 	{"the version isn't read", "version-missing", false, at("catalog", false, "", 400, gives(200))},
 	{"another version is taken", "version-of-another-major", false, at("catalog", false, "", 412, gives(200))},
 	{"no login is taken", "auth-missing auth-provision auth-last-operation auth-fetch auth-bind auth-fetch-binding " +
-		"auth-unbind auth-deprovision auth-binding-last-operation", false, only(not(hasHeader("Authorization")), gives(200))},
+		"auth-update auth-unbind auth-deprovision auth-binding-last-operation", false, only(not(hasHeader("Authorization")), gives(200))},
 	{"anybody may see the catalogue", "auth-missing", false,
 		at("catalog", false, "", 401, only(not(hasHeader("Authorization")), gives(200)))},
 	{"anybody may provision without a password", "auth-provision", false,
@@ -280,6 +402,7 @@ var mistakes = []mistake{
 	{"anybody may poll what is ready", "auth-last-operation auth-tells-nothing", false,
 		at("poll", false, "ready", 401, saysState)},
 	{"anybody may fetch", "auth-fetch", false, at("fetch", false, "ready", 401, gives(200))},
+	{"anybody may update", "auth-update", false, at("patch", false, "ready", 401, gives(200))},
 	{"anybody may bind", "auth-bind", false, at("put", true, "", 401, gives(201))},
 	{"anybody may poll a binding", "auth-binding-last-operation", true, at("poll", true, "creating", 401, saysState)},
 	{"anybody may fetch a binding", "auth-fetch-binding", false, at("fetch", true, "ready", 401, gives(200))},
@@ -329,7 +452,7 @@ var mistakes = []mistake{
 			c.body = object{"state": "failed"}
 		}
 	}},
-	{"201 again", "provision-repeated", false, at("put", false, "ready", 200, gives(201))},
+	{"201 again", "provision-repeated provision-after-update", false, at("put", false, "ready", 200, gives(201))},
 	{"another plan is taken", "provision-conflict-plan", false,
 		at("put", false, "ready", 409, only(asksPlan("b"), gives(200)))},
 	{"other parameters are taken", "provision-conflict-parameters", false,
@@ -361,7 +484,7 @@ var mistakes = []mistake{
 	{"another operation", "async-repeated", true, at("put", false, "creating", 202, says(object{"operation": "x"}))},
 	{"another plan is taken during a creation", "async-conflict", true, at("put", false, "creating", 409, gives(202))},
 	{"404 to a Bind during a creation", "async-bind-during-provision", true, at("put", true, "", 422,
-		only(func(c *call) bool { return textIn(c.body.(object), "error") == "ConcurrencyError" }, gives(404)))},
+		only(all(hasError("ConcurrencyError"), during("creating")), gives(404)))},
 	{"200 to a Fetch during a creation", "async-fetch-during-provision", true,
 		at("fetch", false, "creating", 404, gives(200))},
 	{"500 to a deletion during a creation", "async-deprovision-during-provision", true,
@@ -417,7 +540,7 @@ var mistakes = []mistake{
 		at("put", true, "", 201, only(hasUnknown, gives(400)))},
 
 	{"422 of no kind to a Bind", "async-bind-required", true, at("put", true, "", 422,
-		only(func(c *call) bool { return textIn(c.body.(object), "error") == "AsyncRequired" }, gives(422)))},
+		only(hasError("AsyncRequired"), gives(422)))},
 	{"200 to a Bind too early", "async-bind-repeated", true, at("put", true, "creating", 202, gives(200))},
 	{"200 to a Fetch during a Bind", "async-fetch-during-bind", true, at("fetch", true, "creating", 404, gives(200))},
 	{"202 to an Unbind that nobody asked for", "async-unbind-required", true,
@@ -427,6 +550,80 @@ var mistakes = []mistake{
 		at("poll", true, "deleting", 410, gives(404))},
 	{"200 to every asynchronous Unbind", "unbind-repeated async-unbind-gone", true,
 		at("delete", true, "gone", 410, gives(200))},
+
+	{"no endpoint for Updates", "update-no-change", false, at("patch", false, "ready", 200, gives(405))},
+	{"service_id isn't required of an Update", "update-without-service-id", false,
+		at("patch", false, "ready", 400, only(lacksMember("service_id"), gives(200)))},
+	{"500 to an Update that isn't JSON", "update-malformed", false,
+		at("patch", false, "ready", 400, only(isMalformed, gives(500)))},
+	{"an unknown plan is the plan of before", "update-unknown-plan", false,
+		at("patch", false, "ready", 400, only(unknownPlan, gives(200)))},
+	{"an Update of nothing", "update-unknown-instance", false, at("patch", false, "", 404, gives(200))},
+	{"a rejected Update changes the parameters", "update-rejected-keeps", false,
+		at("patch", false, "ready", 400, only(unknownPlan, changes(object{"parameters": object{"half": true}})))},
+	{"a rejected Update changes the version", "update-rejected-keeps", false,
+		at("patch", false, "ready", 422, only(hasError("MaintenanceInfoConflict"), changes(object{"version": "0.9.0"})))},
+	{"an Update is applied although it has to be asynchronous", "update-rejected-keeps", true,
+		at("patch", false, "ready", 422, only(hasError("AsyncRequired"), changes(object{"plan": "b"})))},
+	{"fields of an Update are counted", "update-unknown-fields", false,
+		at("patch", false, "ready", 200, only(hasUnknown, gives(400)))},
+	{"422 of no kind to a version", "update-maintenance-conflict", false,
+		at("patch", false, "ready", 422, only(hasError("MaintenanceInfoConflict"), gives(422)))},
+	{"no version is right", "update-maintenance", false,
+		at("patch", false, "ready", 200, only(func(c *call) bool { return c.sent["maintenance_info"] != nil }, gives(409)))},
+	{"500 to parameters", "update-parameters", false, at("patch", false, "ready", 200, only(hasParameters, gives(500)))},
+	{"a Fetch without the parameters of an Update", "update-parameters-fetched", false,
+		at("fetch", false, "ready", 200, says(object{"parameters": object{}}))},
+	{"parameters change the plan", "update-keeps-plan", false, at("fetch", false, "ready", 200,
+		only(all(reports("a"), func(c *call) bool { return c.body.(object)["parameters"] != nil }),
+			says(object{"plan_id": "c"})))},
+	{"any plan is updateable", "update-plan-not-updateable", false,
+		catalogs(func(s, _ object) { delete(s, "plan_updateable") })},
+	{"one plan is as updateable as the service", "update-plan-not-updateable", false,
+		catalogs(func(s, _ object) { s["plans"].([]any)[0].(object)["plan_updateable"] = false })},
+	{"500 to another plan", "update-plan", false, at("patch", false, "ready", 200, only(asksPlan("b"), gives(500)))},
+	{"an operation of an Update that is a number", "update-fields", false,
+		at("patch", false, "ready", 200, only(asksPlan("b"), says(object{"operation": 5})))},
+	{"Updates fail", "update-ends", true, func(c *call) {
+		if body, is := c.body.(object); is && c.kind == "poll" && c.before == "updating" && body["state"] == "succeeded" {
+			c.body = object{"state": "failed"}
+		}
+	}},
+	{"a Fetch of the plan of before", "update-plan-fetched", false,
+		at("fetch", false, "ready", 200, says(object{"plan_id": "a"}))},
+	{"another plan has no parameters", "update-keeps-parameters", false,
+		at("fetch", false, "ready", 200, only(reports("b"), says(object{"parameters": object{}})))},
+	{"409 to an Update again", "update-repeated", false, at("patch", false, "ready", 200,
+		only(all(asksPlan("b"), func(c *call) bool { return c.isSame }), gives(409)))},
+	{"a Provision is compared with the plan of before", "provision-after-update", false,
+		at("put", false, "ready", 200, only(asksPlan("b"), gives(409)))},
+	{"a Provision with the settings of before", "provision-after-update-old", false, at("put", false, "ready", 409,
+		only(all(asksPlan("a"), func(c *call) bool { return c.life.asked["plan"] == "b" }), gives(200)))},
+	{"a dashboard that is a number", "fetch-fields", false,
+		at("fetch", false, "ready", 200, says(object{"dashboard_url": 5}))},
+	{"metadata that is a list", "fetch-fields", false,
+		at("fetch", false, "ready", 200, says(object{"metadata": []any{}}))},
+	{"410 to a Fetch of what is gone", "fetch-deleted", false, at("fetch", false, "gone", 404, gives(410))},
+
+	{"422 of no kind to an Update", "async-update-required", true,
+		at("patch", false, "ready", 422, only(hasError("AsyncRequired"), gives(422)))},
+	{"200 to an Update too early", "async-update-repeated", true,
+		at("patch", false, "updating", 202, only(asksPlan("b"), gives(200)))},
+	{"another operation of an Update", "async-update-repeated", true,
+		at("patch", false, "updating", 202, says(object{"operation": "x"}))},
+	{"a Poll of an Update names the plan of after", "async-update-last-operation last-operation-state update-ends", true,
+		at("poll", false, "updating", 200, gives(400))},
+	{"202 to another Update", "async-update-during-update", true, at("patch", false, "updating", 422, gives(202))},
+	{"422 of no kind to another Update", "async-update-during-update", true,
+		at("patch", false, "updating", 422, gives(422))},
+	{"200 to a Fetch during an Update", "async-fetch-during-update", true,
+		at("fetch", false, "updating", 422, gives(200))},
+	{"404 to a Fetch during an Update", "async-fetch-during-update", true,
+		at("fetch", false, "updating", 422, gives(404))},
+	{"404 to a Bind during an Update", "async-bind-during-update", true, at("put", true, "", 422,
+		only(all(hasError("ConcurrencyError"), during("updating")), gives(404)))},
+	{"500 to a deletion during an Update", "async-deprovision-during-update", true,
+		at("delete", false, "updating", 422, gives(500))},
 
 	{"a string for a body", "answers-are-objects", false,
 		at("delete", false, "gone", 410, func(c *call) { c.body = "gone" })},
@@ -444,18 +641,22 @@ const pollsOfOperation = 4
 
 // A life is an instance or a binding of the model.
 type life struct {
-	state         string // creating, ready, deleting or gone
-	asked         object // the service, the plan and the parameters
+	state         string // creating, ready, updating, deleting or gone
+	asked         object // the plan, the parameters, and the version of maintenance_info once an Update has named it
+	to            object // what an Update asks for that is in progress
 	polls, number int
 }
 
 // A call is a request that the model has read, and its answer.
 type call struct {
 	*http.Request
-	kind      string // catalog, put, delete, poll or fetch
+	kind      string // catalog, put, patch, delete, poll or fetch
 	key       key
 	isUnknown bool   // the login is wrong
-	before    string // the state of the instance or the binding, or ""
+	life      *life  // of the instance or the binding, or nil
+	before    string // its state, or ""
+	of        string // the state of the instance, or ""
+	isSame    bool   // an Update asks for the settings that there are
 	sent      object
 	malformed bool
 	status    int
@@ -475,6 +676,8 @@ type model struct {
 	lives map[key]*life
 	hold  func(*call) // called for each request before it is answered
 	count int
+	// isFixed has no plan updateable.
+	isFixed bool
 	// deletesForEver keeps every deletion in progress.
 	deletesForEver bool
 }
@@ -489,7 +692,10 @@ func (m *model) ServeHTTP(w http.ResponseWriter, r *http.Request) {
 	m.turn.Lock()
 	defer m.turn.Unlock()
 	if it := m.lives[c.key]; it != nil {
-		c.before = it.state
+		c.life, c.before = it, it.state
+	}
+	if it := m.lives[key{instance: c.key.instance}]; it != nil {
+		c.of = it.state
 	}
 	m.answer(c)
 	if m.spoil != nil {
@@ -516,7 +722,7 @@ func readCall(r *http.Request) *call {
 	c := &call{Request: r, kindOf: "application/json"}
 	user, given, _ := r.BasicAuth()
 	c.isUnknown = user != "u" || given != password
-	c.kind = map[string]string{"PUT": "put", "DELETE": "delete", "GET": "fetch"}[r.Method]
+	c.kind = map[string]string{"PUT": "put", "PATCH": "patch", "DELETE": "delete", "GET": "fetch"}[r.Method]
 	parts := strings.Split(r.URL.EscapedPath(), "/")
 	for at, part := range parts {
 		parts[at], _ = url.PathUnescape(part)
@@ -556,29 +762,49 @@ func (m *model) answer(c *call) {
 		c.give(200, m.catalog())
 	case c.kind == "put":
 		m.put(c)
+	case c.kind == "patch":
+		m.patch(c)
 	case c.kind == "delete" && (query.Get("service_id") == "" || query.Get("plan_id") == ""):
 		c.reject(400, "BadRequest")
 	case c.kind == "delete":
 		m.delete(c)
 	case c.kind == "poll":
 		m.poll(c)
+	case c.before == "updating":
+		c.reject(422, "ConcurrencyError")
 	case c.before != "ready":
 		c.reject(404, "NotFound")
 	case c.isBinding():
 		c.give(200, m.credentials(c.key))
 	default:
-		c.give(200, object{"service_id": "s", "plan_id": "a"})
+		asked := c.life.asked
+		c.give(200, object{
+			"service_id": "s", "plan_id": asked["plan"], "parameters": asked["parameters"],
+			"maintenance_info": object{"version": versionOf(asked)},
+		})
 	}
+}
+
+const version = "1.0.0"
+
+func versionOf(asked object) string {
+	if named := textIn(asked, "version"); named != "" {
+		return named
+	}
+	return version
 }
 
 func (m *model) catalog() object {
 	plan := func(id string) object {
-		return object{"id": id, "name": "plan-" + id, "description": "d", "free": true, "maximum_polling_duration": 60}
+		return object{
+			"id": id, "name": "plan-" + id, "description": "d", "free": true, "maximum_polling_duration": 60,
+			"maintenance_info": object{"version": version},
+		}
 	}
 	return object{"services": []any{object{
 		"id": "s", "name": "service", "description": "d", "bindable": true, "instances_retrievable": true,
 		"bindings_retrievable": true, "tags": []any{"t"}, "requires": []any{"syslog_drain", "volume_mount"},
-		"plans": []any{plan("a"), plan("b"), plan("c")},
+		"plan_updateable": !m.isFixed, "plans": []any{plan("a"), plan("b"), plan("c")},
 	}}}
 }
 
@@ -602,11 +828,11 @@ func (m *model) put(c *call) {
 	switch {
 	case c.sent["service_id"] != "s" || len(plan) > 1 || !strings.Contains("abc", plan):
 		c.reject(400, "BadRequest")
-	case c.before == "deleting":
+	case c.before == "deleting", c.before == "updating":
 		c.reject(422, "ConcurrencyError")
 	case c.before == "" || c.before == "gone":
 		m.create(c, asked)
-	case !reflect.DeepEqual(asked, m.lives[c.key].asked):
+	case plan != c.life.asked["plan"] || !reflect.DeepEqual(asked["parameters"], c.life.asked["parameters"]):
 		c.reject(409, "Conflict")
 	case c.before == "creating":
 		c.give(202, object{"operation": m.operation(c.key)})
@@ -614,6 +840,54 @@ func (m *model) put(c *call) {
 		c.give(200, m.credentials(c.key))
 	default:
 		c.give(200, object{})
+	}
+}
+
+func (m *model) patch(c *call) {
+	plan, names := textIn(c.sent, "plan_id"), c.sent["plan_id"] != nil
+	switch {
+	case c.malformed || c.sent["service_id"] != "s", names && (len(plan) != 1 || !strings.Contains("abc", plan)):
+		c.reject(400, "BadRequest")
+		return
+	case c.before == "" || c.before == "gone":
+		c.reject(404, "NotFound")
+		return
+	case c.before == "creating" || c.before == "deleting":
+		c.reject(422, "ConcurrencyError")
+		return
+	}
+	it, to := c.life, object{}
+	for member, value := range it.asked {
+		to[member] = value
+	}
+	if names {
+		to["plan"] = plan
+	}
+	if value, has := c.sent["parameters"]; has {
+		to["parameters"] = value
+	}
+	named := versionIn(c.sent["maintenance_info"])
+	c.isSame = reflect.DeepEqual(to, it.asked)
+	switch {
+	case c.before == "updating" && reflect.DeepEqual(to, it.to):
+		c.give(202, object{"operation": m.operation(c.key)})
+	case c.before == "updating":
+		c.reject(422, "ConcurrencyError")
+	case m.isFixed && to["plan"] != it.asked["plan"]:
+		c.reject(422, "NotUpdateable")
+	case named != "" && named != version:
+		c.reject(422, "MaintenanceInfoConflict")
+	case c.isSame:
+		c.give(200, object{})
+	case m.async && !c.isAccepting():
+		c.reject(422, "AsyncRequired")
+	case m.async:
+		m.count++
+		it.state, it.to, it.polls, it.number = "updating", to, 0, m.count
+		c.give(202, object{"operation": m.operation(c.key)})
+	default:
+		it.asked = to
+		c.give(200, object{"dashboard_url": "http://dashboard"})
 	}
 }
 
@@ -656,7 +930,7 @@ func (m *model) delete(c *call) {
 		c.reject(410, "Gone")
 	case m.async && !c.isAccepting():
 		c.reject(422, "AsyncRequired")
-	case c.before == "creating":
+	case c.before == "creating", c.before == "updating":
 		c.reject(422, "ConcurrencyError")
 	case m.async && c.before == "ready":
 		m.count++
@@ -686,6 +960,9 @@ func (m *model) poll(c *call) {
 			it.state = "gone"
 			c.reject(410, "Gone")
 			return
+		}
+		if it.state == "updating" {
+			it.asked = it.to
 		}
 		it.state = "ready"
 	}

@@ -62,6 +62,8 @@ var lifeCases = scenario{
 			"409 to a Provision of an existing instance with other parameters, or 400 if the plan takes no parameters"},
 		{"fetch-instance", sectionFetch, Must,
 			"200 with the service and the plan of the instance, as far as the body has them"},
+		{"fetch-fields", sectionFetch, Must,
+			"dashboard_url, if present, is a string, and parameters, maintenance_info and metadata are objects"},
 		{"fetch-instance-unknown", sectionFetch, Must, "404 for an instance that doesn't exist"},
 	},
 	run: func(r *Runner) {
@@ -100,7 +102,7 @@ func (r *Runner) conflicts(name string, k key) {
 
 func (r *Runner) fetches(k key) {
 	if !r.target.InstancesRetrievable {
-		r.skip(reasonNotFetched, "fetch-instance", "fetch-instance-unknown")
+		r.skip(reasonNotFetched, "fetch-instance", "fetch-fields", "fetch-instance-unknown")
 		return
 	}
 	x := r.fetch(k)
@@ -111,7 +113,19 @@ func (r *Runner) fetches(k key) {
 		}
 	}
 	r.judge("fetch-instance", x, problem)
+	r.judge("fetch-fields", x, wrongFields(x, []string{"dashboard_url"}, objectsOfInstance))
 	r.wants("fetch-instance-unknown", r.fetch(key{instance: r.id()}), 404)
+}
+
+// objectsOfInstance are the members of the answer to a Fetch that are objects.
+var objectsOfInstance = []string{"parameters", "maintenance_info", "metadata"}
+
+// fetchesDeleted judges the Fetch of an instance that was deleted.
+func (r *Runner) fetchesDeleted(k key) {
+	if r.target.InstancesRetrievable {
+		r.wants("fetch-deleted", r.fetch(k), 404)
+	}
+	r.skip(reasonNotFetched, "fetch-deleted")
 }
 
 // wrongLastOperation returns a problem if a member of the answer to a Poll is present and has another type.
@@ -157,6 +171,7 @@ var deletionCases = scenario{
 		{"deprovision-existing", sectionDeprovision, Must, "200, or 202 if the Deprovision is asynchronous"},
 		{"deprovision-repeated", sectionDeprovision, Must, "410 once the instance is deleted"},
 		{"deprovision-unknown", sectionDeprovision, Must, "410 for an instance that never existed"},
+		{"fetch-deleted", sectionFetch, Must, "404 once the instance is deleted"},
 		{"provision-again-after-deletion", sectionProvision, May,
 			"201 or 202 for the id of an instance that was deleted"},
 	},

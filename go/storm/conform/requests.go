@@ -81,9 +81,14 @@ func (r *Runner) settle(k key, x *exchange) bool {
 
 // await polls until an operation ends. It returns its last state and the last answer; after 410, the state "gone".
 func (r *Runner) await(k key, operation string) (string, *exchange) {
+	return r.awaitBy(k, r.target.Pair, operation)
+}
+
+// awaitBy is await by polls that name a pair.
+func (r *Runner) awaitBy(k key, p Pair, operation string) (string, *exchange) {
 	begun := time.Now()
 	for {
-		x := r.send(poll(k, r.target.Pair, operation))
+		x := r.send(poll(k, p, operation))
 		state := stateOf(x)
 		if state != "gone" {
 			problem := ""
@@ -120,12 +125,14 @@ func stateOf(x *exchange) string {
 	return ""
 }
 
+const reasonEnded = "the operation had ended before the answer"
+
 // judgeDuring judges a case about an operation in progress. If there is a problem and the operation has ended
 // meanwhile, the problem says nothing, and the case isn't run.
 func (r *Runner) judgeDuring(name string, k key, operation string, x *exchange, problem string) {
 	if problem != "" && x.err == nil {
 		if state := stateOf(r.send(poll(k, r.target.Pair, operation))); state != "in progress" && state != "" {
-			r.skip("the operation had ended before the answer", name)
+			r.skip(reasonEnded, name)
 			return
 		}
 	}
@@ -248,6 +255,7 @@ func (r *Runner) deletes(kind string, k, unknown key, again func() (key, bool)) 
 		r.wants(kind+"-repeated", r.delete(k), 410)
 	}
 	if isGone && k.binding == "" {
+		r.fetchesDeleted(k)
 		r.wants("provision-again-after-deletion", r.put(k, nil), 201, 202)
 	}
 	r.wants(kind+"-unknown", r.delete(unknown), 410)
@@ -552,6 +560,9 @@ func (r *Runner) hasCatalogue() bool {
 	return r.fetched.is(200) && isList
 }
 
+// Aim has Update and Create ask for a target, as Open does for the one that it has read.
+func (r *Runner) Aim(target Target) { r.target = target }
+
 // An Answer is what a broker has answered.
 type Answer struct {
 	Status int // 0 if there is no answer
@@ -567,6 +578,13 @@ func (a Answer) Text(member string) string { return textIn(a.Object, member) }
 // binding, such as /last_operation. It judges nothing, and is sent even if Run has ended.
 func (r *Runner) Ask(ctx context.Context, method, instance, binding, path string, query url.Values) Answer {
 	x := r.client.send(ctx, request{method: method, path: pathOf(key{instance, binding}) + path, query: query})
+	return Answer{x.status, x.object, x.requestLine(), x.came()}
+}
+
+// Update sends an Update of an instance of the target that accepts an asynchronous operation. It names these members
+// besides the service. It judges nothing, and is sent even if Run has ended.
+func (r *Runner) Update(ctx context.Context, instance string, named map[string]any) Answer {
+	x := r.client.send(ctx, r.updated(instance).patch(named))
 	return Answer{x.status, x.object, x.requestLine(), x.came()}
 }
 
@@ -657,6 +675,7 @@ func (s Observation) Judge() (failed []CaseResult) {
 		{"errors-have-strings", "error or description isn't a non-empty string", g.noStrings != nil},
 		{"retry-after", wrongRetry, g.noRetry != nil},
 		{fields, wrongFields(x, texts, objectsOfBinding), s.Method == http.MethodPut},
+		{"update-fields", wrongFields(x, texts, objectsOfBinding), s.Method == http.MethodPatch},
 		{ofPoll(k, "last-operation-fields"), wrongLastOperation(x), isPoll},
 		{ofPoll(k, "last-operation-state"), "the answer isn't one of these states", isPoll && x.is(200) && stateOf(x) == ""},
 	} {

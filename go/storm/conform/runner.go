@@ -66,6 +66,7 @@ type Runner struct {
 	// What the answers have shown: whether the target is created and bound asynchronously, and an instance that exists.
 	isAsync, bindsAsync bool
 	existing            string
+	laterUpdate         object // what an Update named that was answered with 202, or nil
 }
 
 // New returns a Runner.
@@ -200,7 +201,8 @@ func (r *Runner) judge(name string, x *exchange, problem string) {
 // skip sets why a case isn't run, unless it has been judged.
 func (r *Runner) skip(reason string, names ...string) {
 	switch reason {
-	case reasonOnePlan, reasonNotBindable, reasonNotRetrievable, reasonNotFetched:
+	case reasonOnePlan, reasonNotBindable, reasonNotRetrievable, reasonNotFetched, reasonNotUpdateable, reasonNoSibling,
+		reasonNoMaintenance:
 		if !r.hasCatalogue() { // then nobody knows whether it is so
 			reason = reasonNoCatalogue
 		}
@@ -287,7 +289,8 @@ type scenario struct {
 func scenarios() []scenario {
 	return []scenario{
 		catalogCases, accessCases, rejectedCases, lifeCases, deletionCases, acceptedCases, asyncCases,
-		asyncDeletionCases, bindingCases, rejectedBindingCases, asyncBindingCases, answerCases,
+		asyncDeletionCases, bindingCases, rejectedBindingCases, asyncBindingCases, updateCases, asyncUpdateCases,
+		answerCases,
 	}
 }
 

@@ -109,6 +109,27 @@ func TestHangingBroker(t *testing.T) {
 	diff.AtLeast(t, m.count, 1, "creations")
 }
 
+// A target has what a storm of updates needs: whether the plan is updateable, all plans of its service with their
+// versions, and whether the broker orders Updates by their numbers.
+func TestTargetOfUpdates(t *testing.T) {
+	for _, numbers := range []any{true, false, nil, "true"} {
+		m := newModel(false)
+		m.spoil = both(catalogs(func(_, plan object) {
+			plan["maintenance_info"], plan["plan_updateable"] = object{"version": "2.0.0"}, false
+		}), at("catalog", false, "", 200, says(object{"x-osb-updates": numbers})))
+		for _, plan := range []string{"a", "c"} {
+			t.Run(fmt.Sprint(numbers, plan), func(t *testing.T) {
+				c := optionsFor(serve(t, m))
+				c.Service, c.Plan = "s", plan
+				target := openTarget(t, runnerFor(t, c))
+				diff.Equal(t, target.NumbersUpdates, numbers == true, "it orders Updates")
+				diff.Equal(t, target.Updateable, plan == "a", "the plan is updateable")
+				diff.Check(t, target.Plans, []PlanVersion{{"a", "1.0.0"}, {"b", "1.0.0"}, {"c", "2.0.0"}}, "the plans")
+			})
+		}
+	}
+}
+
 // owing returns a Runner that owes instances at a model: first one whose creation wasn't answered and that doesn't
 // exist, and then some that exist.
 func runnerThatOwes(t *testing.T, m *model, change func(*Options), exist ...string) *Runner {

@@ -34,11 +34,13 @@ type Difference struct {
 type DifferenceKind int
 
 const (
-	Lost     DifferenceKind = iota // it exists, and the platform has no record, or one that says that nothing exists
-	False                          // the record says ready, and that isn't true
-	Stuck                          // the record hasn't converged
-	Disagree                       // the platform's record, the broker's row and what exists disagree in something else
-	Present                        // it exists, and by its requests the platform has it
+	Lost          DifferenceKind = iota // it exists, and the platform has no record, or one that says that nothing exists
+	False                               // the record says ready, and that isn't true
+	Stuck                               // the record hasn't converged
+	Disagree                            // the platform's record, the broker's row and what exists disagree in something else
+	Present                             // it exists, and by its requests the platform has it
+	FalseSettings                       // the broker has reported settings, and the resource has others that were asked for
+	HalfUpdated                         // the broker has reported settings, and the resource has some that nobody has asked for
 )
 
 // IsOneOf reports whether a kind is one of some.

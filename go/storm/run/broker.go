@@ -11,6 +11,7 @@ import (
 	"sort"
 	"time"
 
+	"pippinterm/internal/journalfile"
 	"pippinterm/platform"
 	"pippinterm/storm/conform"
 	"pippinterm/storm/fault"
@@ -29,7 +30,10 @@ type BrokerStorm struct {
 	isListed      bool
 	left          map[Key]bool // what couldn't be deleted
 	deletionsTell bool         // a repeated deletion is answered with 410
-	journals      *journals    // of the platform and of the requests that osb-storm sends itself, or nil
+	// What the instances of a run are updated to, as the broker takes it.
+	updatesPlans, updatesParameters bool
+	noUpdates                       string    // why nothing is updated, or empty
+	journals                        *journals // of the platform and of the requests that osb-storm sends itself, or nil
 }
 
 // NewBroker returns a BrokerStorm.
@@ -47,9 +51,7 @@ func NewBroker(options BrokerOptions) (*BrokerStorm, error) {
 	if err != nil {
 		return nil, err
 	}
-	if journals != nil {
-		options.Broker.Transport = journals.own
-	}
+	options.Broker.Transport = journals.own
 	broker, err := conform.New(options.Broker)
 	if err != nil {
 		journals.close()
@@ -87,6 +89,7 @@ func (s *BrokerStorm) Run(running, deleting context.Context) (into *Report, err 
 		}
 		return into, err
 	}
+	into.Notes = append(into.Notes, s.notes()...)
 	into.Inventory = s.standard.describe()
 	if s.isListed {
 		into.Inventory = ByListCommand
@@ -258,6 +261,7 @@ type BrokerOptions struct {
 	Options
 	Broker      conform.Options // Instances is how many instances a run may create. Pause is the time between two polls
 	CleanUpTime time.Duration   // for the deletions at the end of each run
+	Without     string          // WithoutUpdates, WithoutNumbers, or empty
 }
 
 func (c BrokerOptions) demands() Demands {
@@ -277,7 +281,9 @@ type brokerRun struct {
 	events   *events
 	proxy    *fault.Proxy
 	platform *platformRig
+	updates  *updater
 	watch    *watch
+	settings *settingsWatch
 	last     Sight // of the end
 
 	guard
@@ -307,7 +313,11 @@ func (s *BrokerStorm) startRun(ctx, deleting context.Context, folder string, sou
 	if err != nil {
 		return nil, err
 	}
-	writer, err := s.journals.open(workerName)
+	r.updates, err = s.updater(r.proxy.URL(), r.events)
+	var writer *journalfile.Writer
+	if err == nil {
+		writer, err = s.journals.open(workerName)
+	}
 	if err == nil {
 		r.platform, err = startPlatform(ctx, s.options, folder, r.proxy.URL(), s.target, r.events, writer)
 	}
@@ -317,6 +327,9 @@ func (s *BrokerStorm) startRun(ctx, deleting context.Context, folder string, sou
 	}
 	r.watch = &watch{
 		orders: r.platform, inventory: s.inventory, isCheap: s.isListed, seen: map[Key]Record{}, finds: &finds{events: r.events},
+	}
+	r.settings = &settingsWatch{
+		updates: r.updates, broker: s.standard, stock: s.stock(), records: r.platform.Records, finds: &finds{events: r.events},
 	}
 	return r, nil
 }
@@ -343,13 +356,16 @@ func (r *brokerRun) fail(what string) { r.hold(func() { r.failed = append(r.fail
 func (r *brokerRun) storm(ctx, deleting context.Context, only map[int]bool) *Result {
 	found := &Result{Keys: r.keys}
 	course := &course{
-		orders: r.platform, keys: r.keys, events: r.events, look: r.watch.look, source: r.source, now: r.capture.Now,
+		orders: r.platform, keys: r.keys, events: r.events, updates: r.updates, look: r.look, source: r.source,
+		now:     r.capture.Now,
 		isQuiet: r.isQuiet, isDone: func() bool { return true }, calm: func() {}, time: r.options.Time,
 		settleTime: r.options.SettleTime, lookEach: lookEach,
 	}
 	isBindable, count := r.target.Bindable && r.target.HasCatalogue, r.options.Broker.Instances-1
 	course.lives = func(int) []life { return lives(r.options.Seed, count, r.options.Time, isBindable, only) }
+	endUpdates := r.beginUpdates(ctx)
 	found.Converged, found.Took = course.run(ctx)
+	endUpdates()
 	if err := r.platform.halt(); err != nil {
 		r.fail("the platform failed: " + err.Error())
 	}
@@ -362,8 +378,29 @@ func (r *brokerRun) storm(ctx, deleting context.Context, only map[int]bool) *Res
 			found.Differences.Add(event.Key, Lost, event.What)
 		}
 	}
-	found.Failed = append(r.failed, end.failed...)
+	found.Failed = append(append(r.failed, end.failed...), r.settings.end(looking, end.last)...)
+	found.Differences, found.Updates = append(found.Differences, r.settings.list()...), r.updates.count()
+	if ctx.Err() == nil {
+		found.Differences = append(found.Differences, r.updates.unsettled()...)
+	}
 	return found
+}
+
+// beginUpdates has updates sent, until the function that it returns is called or ctx is done.
+func (r *brokerRun) beginUpdates(ctx context.Context) (end func()) {
+	updating, cancel := context.WithCancel(ctx)
+	ended := make(chan struct{})
+	go func() {
+		defer close(ended)
+		r.updates.run(updating)
+	}()
+	return func() { cancel(); <-ended }
+}
+
+// look compares what is recorded with what exists, and with the settings of that.
+func (r *brokerRun) look(ctx context.Context) {
+	r.watch.look(ctx)
+	r.settings.look(ctx)
 }
 
 // clear has the platform delete everything that these records name. It waits until that is done, for at most the time
@@ -373,7 +410,7 @@ func (r *brokerRun) clear(ctx context.Context, records map[Key]Record) error {
 	defer cancel()
 	r.events.add(Key{}, "osb-storm", "has the platform delete everything")
 	r.platform.resume()
-	operator := &operator{orders: r.platform, keys: r.keys, events: r.events, look: readEach}
+	operator := &operator{orders: r.platform, keys: r.keys, events: r.events, updates: r.updates, look: readEach}
 	for key, record := range records {
 		if key.Binding == "" && !record.IsEnded() {
 			operator.remove(within, key, true)
@@ -383,8 +420,8 @@ func (r *brokerRun) clear(ctx context.Context, records map[Key]Record) error {
 	return r.platform.halt()
 }
 
-// isQuiet reports whether no request is on its way to the broker.
-func (r *brokerRun) isQuiet() bool { return r.proxy.Pending() == 0 }
+// isQuiet reports whether no request is on its way to the broker, and each update is settled.
+func (r *brokerRun) isQuiet() bool { return r.proxy.Pending() == 0 && r.updates.rests() }
 
 // deleteAll deletes everything that a run may have created, and returns what couldn't be deleted, except what an
 // earlier run has returned.
@@ -466,6 +503,9 @@ func (s *BrokerStorm) try(running, ctx context.Context) error {
 	key := keys[0]
 	wrong := s.tryLists(running, ctx, keys)
 	existing := s.standard.lastOperation(ctx, key)
+	if wrong == nil {
+		s.noUpdates, wrong = s.tryUpdate(running, ctx, key)
+	}
 	if s.inventory == Inventory(s.standard) && s.target.InstancesRetrievable && s.standard.look(ctx, key) != Exists {
 		s.target.InstancesRetrievable, s.standard.target.InstancesRetrievable = false, false
 	}

@@ -39,6 +39,7 @@ type Options struct {
 // platform has.
 type Commands struct {
 	List         string // prints the id of each instance, one on a line
+	Settings     string // prints the id of each instance that was updated, and its settings as an object of JSON
 	ListBindings string // prints the ids of the instance and the binding for each binding
 	Restart      string // kills the broker and starts it again
 	Kill, Start  string // of the broker
@@ -114,6 +115,7 @@ type Result struct {
 	Failed      []string      // what went wrong with the run itself
 	Leftovers   []conform.Leftover
 	Unknown     int // how many instances and bindings nobody could ask for
+	Updates     int // that have succeeded
 	// OrdersAll is set if a further run can't leave out the instances that a list of faults isn't about.
 	OrdersAll bool
 
@@ -121,7 +123,7 @@ type Result struct {
 }
 
 // losses are the differences in which something is lost or false.
-var losses = []report.DifferenceKind{Lost, False, Disagree}
+var losses = []report.DifferenceKind{Lost, False, Disagree, FalseSettings, HalfUpdated}
 
 // IsLoser reports whether something was lost, or a record was false.
 func (r *Result) IsLoser() bool {
@@ -193,6 +195,9 @@ const (
 	Stuck    = report.Stuck
 	Disagree = report.Disagree
 	Present  = report.Present
+
+	FalseSettings = report.FalseSettings
+	HalfUpdated   = report.HalfUpdated
 )
 
 const whoBroker, whoPlatform = report.WhoBroker, report.WhoPlatform

@@ -62,7 +62,12 @@ func (j *journals) close() []string {
 }
 
 // own writes down the requests that osb-storm sends itself. They have no attempt, because no record has them.
-func (j *journals) own(next http.RoundTripper) http.RoundTripper { return ownRequests{next, j.ofOwn} }
+func (j *journals) own(next http.RoundTripper) http.RoundTripper {
+	if j == nil {
+		return next
+	}
+	return ownRequests{next, j.ofOwn}
+}
 
 type ownRequests struct {
 	next http.RoundTripper
@@ -119,6 +124,8 @@ func ownLineOf(request *http.Request) (line ownLine, is bool) {
 	switch {
 	case request.Method == http.MethodPut:
 		line.Kind = osb.KindProvision.String()
+	case request.Method == http.MethodPatch:
+		line.Kind = "update"
 	case request.Method == http.MethodDelete:
 		line.Kind = osb.KindDeprovision.String()
 	case ids != path:

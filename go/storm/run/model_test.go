@@ -154,6 +154,8 @@ func (m *model) answer(r *http.Request, text []byte) (int, any) {
 		return 400, object{}
 	case r.Method == http.MethodPut:
 		return m.put(r, key)
+	case r.Method == http.MethodPatch:
+		return 405, object{}
 	case r.Method == http.MethodDelete:
 		return m.delete(key)
 	case path != r.URL.Path:

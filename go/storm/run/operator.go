@@ -20,6 +20,7 @@ type life struct {
 	stays    bool // it is never removed
 	whole    bool // its bindings are removed with it, and otherwise before
 	pause    time.Duration
+	updates  int // before the pause
 }
 
 // lives returns the lives of a run. If only isn't nil, it returns those of these instances, and all begin at once.
@@ -30,6 +31,7 @@ func lives(seed int64, count int, within time.Duration, isBindable bool, only ma
 			number: number, begin: time.Duration(float64(within) * 0.6 * float64(number-1) / float64(count)),
 			bindings: chance.Intn(3), early: chance.Float64() < 0.2, stays: chance.Float64() < 0.2,
 			whole: chance.Float64() < 0.7, pause: time.Duration(chance.Float64() * float64(time.Second)),
+			updates: chance.Intn(4),
 		}
 		if !isBindable {
 			it.bindings = 0
@@ -49,6 +51,7 @@ type course struct {
 	orders           Orders
 	keys             *Keys
 	events           *events
+	updates          *updater
 	look             func(context.Context) // compares the records with what exists
 	lookEach         time.Duration         // between two looks
 	source           *fault.Source
@@ -73,7 +76,7 @@ func (c *course) run(ctx context.Context) (converged bool, took time.Duration) {
 			c.look(looking)
 		}
 	}()
-	operator := &operator{orders: c.orders, keys: c.keys, events: c.events, look: readEach}
+	operator := &operator{orders: c.orders, keys: c.keys, events: c.events, updates: c.updates, look: readEach}
 	storming, endStorm := context.WithTimeout(ctx, c.time)
 	looks.Add(1)
 	go func() {
@@ -120,12 +123,13 @@ type Orders interface {
 	Records(ctx context.Context) (map[Key]Record, error)
 }
 
-// An operator creates, binds, unbinds and removes, as the lives say.
+// An operator creates, binds, updates, unbinds and removes, as the lives say.
 type operator struct {
-	orders Orders
-	keys   *Keys
-	events *events
-	look   time.Duration // how often a record is read while the operator waits for it
+	orders  Orders
+	keys    *Keys
+	events  *events
+	updates *updater      // or nil
+	look    time.Duration // how often a record is read while the operator waits for it
 }
 
 // run lives all lives, until ctx is done.
@@ -149,6 +153,9 @@ func (o *operator) live(ctx context.Context, l life) {
 		return
 	}
 	bindings := o.bind(ctx, key, l)
+	for count := 0; count < l.updates; count++ {
+		o.updates.update(ctx, key, l.number)
+	}
 	if l.stays || !fault.Sleep(ctx, l.pause) {
 		return
 	}
@@ -176,6 +183,8 @@ func (o *operator) remove(ctx context.Context, key Key, withBindings bool) bool 
 	what := "removes the instance"
 	if key.Binding != "" {
 		what = "removes the binding"
+	} else {
+		o.updates.end(ctx, key)
 	}
 	return o.do(ctx, key, what, func() error { return o.orders.Remove(ctx, key, withBindings && key.Binding == "") })
 }

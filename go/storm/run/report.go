@@ -29,6 +29,7 @@ type Report struct {
 	Converged bool     `json:"-"`
 	Took      float64  `json:"-"`            // after the faults ended
 	Unknown   int      `json:"-"`            // how many instances and bindings nobody could ask for
+	Updates   int      `json:"-"`            // that have succeeded
 	Unmet     []string `json:"unmet_faults"` // those of the given list that no request has met
 
 	Counts    []report.KindCount `json:"faults"`
@@ -37,6 +38,8 @@ type Report struct {
 	Stuck     []Finding          `json:"not_converged"`
 	Disagree  []Finding          `json:"-"` // of the records, the broker's rows and what exists
 	Exists    []Finding          `json:"-"` // by the platform's requests, the platform has it
+	Settings  []Finding          `json:"-"` // the broker has reported others
+	Half      []Finding          `json:"-"` // the resource has settings that nobody has asked for, and the broker reports others
 	Broken    []Violation        `json:"broken"`
 	Failed    []string           `json:"failed"` // what went wrong with the run itself
 	Leftovers []conform.Leftover `json:"-"`
@@ -96,7 +99,7 @@ func NewReport(url string, seed int64, user, password string) *Report {
 func emptyReport() *Report {
 	return &Report{
 		Counts: []report.KindCount{}, Lost: []Finding{}, False: []Finding{}, Stuck: []Finding{}, Disagree: []Finding{},
-		Exists: []Finding{}, Broken: []Violation{}, Failed: []string{}, Leftovers: []conform.Leftover{}, Notes: []string{},
+		Exists: []Finding{}, Settings: []Finding{}, Half: []Finding{}, Broken: []Violation{}, Failed: []string{}, Leftovers: []conform.Leftover{}, Notes: []string{},
 		Given: []string{}, Unmet: []string{}, Untried: []string{},
 	}
 }
@@ -130,9 +133,11 @@ func (r *Report) take(found *Result) {
 	}
 	r.Requests, r.Restarts, r.Ended = len(found.Exchanges), found.Restarts, found.Ended
 	r.Converged, r.Took, r.Unknown = found.Converged, found.Took.Seconds(), found.Unknown
+	r.Updates = found.Updates
 	r.Counts = report.CountKinds(found.Exchanges)
 	for kind, to := range map[report.DifferenceKind]*[]Finding{
 		Lost: &r.Lost, False: &r.False, Stuck: &r.Stuck, Disagree: &r.Disagree, Present: &r.Exists,
+		FalseSettings: &r.Settings, HalfUpdated: &r.Half,
 	} {
 		*to = r.findings(found, kind)
 	}
@@ -184,7 +189,7 @@ func (r *Report) IsClean() bool {
 // hasLoss reports whether something was lost, a record was false, something disagrees, or two have worked at once.
 func (r *Report) hasLoss() bool {
 	together := r.Programs != nil && len(r.Programs.Together) > 0
-	return len(r.Lost)+len(r.False)+len(r.Disagree) > 0 || together
+	return len(r.Lost)+len(r.False)+len(r.Disagree)+len(r.Settings)+len(r.Half) > 0 || together
 }
 
 // WriteJSON writes the report as a JSON object.
@@ -211,12 +216,15 @@ func (r *Report) WriteJSON(w io.Writer) error {
 		Took      float64            `json:"converged_after_seconds"`
 		Unknown   int                `json:"unknown"`
 		Lost      []Finding          `json:"lost"`
+		Updates   int                `json:"updates"`
+		Settings  []Finding          `json:"false_settings"`
+		Half      []Finding          `json:"half_updated"`
 		Disagree  []Finding          `json:"disagreements"`
 		Leftovers []conform.Leftover `json:"leftovers"`
 		Programs  *Programs          `json:"programs,omitempty"`
 	}{
-		r, r.Prefix, r.Service, r.Plan, r.Inventory, r.Restarts, r.Converged, r.Took, r.Unknown, r.Lost, r.Disagree,
-		r.Leftovers, r.Programs,
+		r, r.Prefix, r.Service, r.Plan, r.Inventory, r.Restarts, r.Converged, r.Took, r.Unknown, r.Lost, r.Updates,
+		r.Settings, r.Half, r.Disagree, r.Leftovers, r.Programs,
 	})
 }
 
@@ -244,6 +252,8 @@ func (r *Report) WriteText(w io.Writer) error {
 	r.writeCounts(&text)
 	report.WriteFindings(&text, strings.ToUpper(words.lost), r.Lost)
 	report.WriteFindings(&text, "FALSE RECORD", r.False)
+	report.WriteFindings(&text, "FALSE SETTINGS", r.Settings)
+	report.WriteFindings(&text, "HALF UPDATED", r.Half)
 	report.WriteFindings(&text, "NOT CONVERGED", r.Stuck)
 	report.WriteFindings(&text, "DISAGREEMENT", r.Disagree)
 	report.WriteBroken(&text, words.answer, r.Broken)
@@ -262,7 +272,7 @@ func (r *Report) writeCounts(w io.Writer) {
 	case r.IsOfPlatform:
 		fmt.Fprintln(w)
 	default:
-		fmt.Fprintf(w, ", %d restarts of the broker\n", r.Restarts)
+		fmt.Fprintf(w, ", %d updates, %d restarts of the broker\n", r.Updates, r.Restarts)
 	}
 	report.WriteKinds(w, r.Counts)
 	lines := append(r.unknownLines(), report.UnmetLines(r.Unmet)...)
@@ -335,8 +345,12 @@ func (r *Report) summary() string {
 	if r.Unknown > 0 {
 		unasked = fmt.Sprintf(" of those that could be asked for, %d couldn't be asked for", r.Unknown)
 	}
-	return fmt.Sprintf("%d lost%s, %d false records, %s%d kinds of answers that break the standard, %s",
-		len(r.Lost), unasked, len(r.False), disagreements, len(r.Broken), r.convergence())
+	settings := ""
+	if r.Programs == nil {
+		settings = fmt.Sprintf("%d false settings, %d half updated, ", len(r.Settings), len(r.Half))
+	}
+	return fmt.Sprintf("%d lost%s, %d false records, %s%s%d kinds of answers that break the standard, %s",
+		len(r.Lost), unasked, len(r.False), settings, disagreements, len(r.Broken), r.convergence())
 }
 
 func (r *Report) convergence() string {
@@ -359,6 +373,8 @@ func (r *Report) WriteHTML(w io.Writer) error {
 		Minimal: r.minimalLines(r.words().lost), MinimalTitle: r.minimalTitle(),
 		Sections: []report.Section{
 			{Title: lost, Findings: r.Lost, Kills: r.kills}, {Title: "False records", Findings: r.False, Kills: r.kills},
+			{Title: "False settings", Findings: r.Settings, Kills: r.kills},
+			{Title: "Half updated", Findings: r.Half, Kills: r.kills},
 			{Title: "Not converged", Findings: r.Stuck, Kills: r.kills},
 			{Title: "Disagreements", Findings: r.Disagree, Kills: r.kills},
 			{Title: "What exists, to compare with what the platform has", Findings: r.Exists},

@@ -331,10 +331,9 @@ type arrival struct {
 	hasTime      bool // of a journal
 }
 
-// newNotedModel is newModel that notes each request with an id, by its id.
-func newNotedModel(t *testing.T, isAsync bool) (m *model, url string, arrivals func() map[string]arrival) {
+// noted serves a broker until the end of the test, and notes each request with an id, by its id.
+func noted(t *testing.T, of http.Handler) (url string, arrivals func() map[string]arrival) {
 	t.Helper()
-	m, _ = newModel(t, isAsync, mistakes{})
 	var mutex sync.Mutex
 	all := map[string]arrival{}
 	server := httptest.NewServer(http.HandlerFunc(func(w http.ResponseWriter, r *http.Request) {
@@ -343,10 +342,10 @@ func newNotedModel(t *testing.T, isAsync bool) (m *model, url string, arrivals f
 			all[r.Header.Get(osb.RequestIdentityHeader)] = arrival{r.Method, r.URL.Path, r.Header.Get(journalfile.Header) != ""}
 			mutex.Unlock()
 		}
-		m.ServeHTTP(w, r)
+		of.ServeHTTP(w, r)
 	}))
 	t.Cleanup(server.Close)
-	return m, server.URL, func() map[string]arrival {
+	return server.URL, func() map[string]arrival {
 		mutex.Lock()
 		defer mutex.Unlock()
 		return all
@@ -360,25 +359,45 @@ func TestJournals(t *testing.T) {
 		isAsync := isAsync
 		t.Run("", func(t *testing.T) {
 			t.Parallel()
-			m, url, arrivals := newNotedModel(t, isAsync)
-			options := optionsFor(t, url)
-			options.Commands, options.Journal = m.commands(), filepath.Join(t.TempDir(), "journals")
+			m, options := optionsForModel(t, isAsync, mistakes{})
 			options.Commands.ListBindings = "" // osb-storm fetches the bindings
-			report := runStorm(t, options)
-			if !report.IsClean() || len(report.Failed) > 0 || len(report.Leftovers) > 0 {
-				t.Errorf("got\n%s\nwant a clean report and nothing left", textOf(t, report))
+			own := checkJournals(t, m, m, options)
+			if own["fetch"] == 0 || own["deprovision"] == 0 || own["provision"] > 0 {
+				t.Errorf("got %v that aren't the platform's, want its fetches and deprovisions, and no provision", own)
 			}
-			m.expectNothing(t)
-			stormtest.Empty(t, options.Folder)
-			lines := linesOf(t, filepath.Join(options.Journal, "platform"))
-			checkRequests(t, lines, arrivals())
-			checkDeletions(t, lines, report)
 		})
 	}
 }
 
-// checkRequests compares the requests of journals with those that a broker got.
-func checkRequests(t *testing.T, lines []journalLine, arrivals map[string]arrival) {
+// With a folder for journals, the instances are updated, too. Each request of an Update is in a journal.
+func TestJournalsOfUpdates(t *testing.T) {
+	m, options := newUpdatable(t, true, truthful)
+	own := checkJournals(t, m.model, m, options)
+	if own["update"] < 10 || own["poll"] == 0 || own["deprovision"] == 0 || own["provision"] > 0 {
+		t.Errorf("got %v that aren't the platform's, want its updates, polls and deprovisions, and no provision", own)
+	}
+}
+
+// checkJournals runs a storm with journals against a broker over a model, and checks them. It returns the requests that
+// osb-storm itself has sent, counted by their kinds.
+func checkJournals(t *testing.T, m *model, of http.Handler, options BrokerOptions) (own map[string]int) {
+	t.Helper()
+	url, arrivals := noted(t, of)
+	options.Broker.URL, options.Journal = url, filepath.Join(t.TempDir(), "journals")
+	report := runStorm(t, options)
+	if !report.IsClean() || len(report.Failed) > 0 || len(report.Leftovers) > 0 {
+		t.Errorf("got\n%s\nwant a clean report and nothing left", textOf(t, report))
+	}
+	m.expectNothing(t)
+	stormtest.Empty(t, options.Folder)
+	lines := linesOf(t, filepath.Join(options.Journal, "platform"))
+	checkDeletions(t, lines, report)
+	return checkRequests(t, lines, arrivals())
+}
+
+// checkRequests compares the requests of journals with those that a broker got. It returns those of osb-storm itself,
+// counted by their kinds.
+func checkRequests(t *testing.T, lines []journalLine, arrivals map[string]arrival) (own map[string]int) {
 	t.Helper()
 	sent, answered := map[string]journalLine{}, map[string]bool{}
 	for _, line := range lines {
@@ -389,7 +408,7 @@ func checkRequests(t *testing.T, lines []journalLine, arrivals map[string]arriva
 			answered[line.Request] = line.Status != 0 || line.Lost != ""
 		}
 	}
-	own := map[string]int{}
+	own = map[string]int{}
 	for id, arrival := range arrivals {
 		line, is := sent[id]
 		if kind := kindOf(arrival); !is || !arrival.hasTime || line.Kind != kind || !answered[id] {
@@ -403,10 +422,8 @@ func checkRequests(t *testing.T, lines []journalLine, arrivals map[string]arriva
 			own[line.Kind]++
 		}
 	}
-	if own["fetch"] == 0 || own["deprovision"] == 0 || own["provision"] > 0 || len(arrivals) < 50 {
-		t.Errorf("of %d requests: got %v that aren't the platform's, want its fetches and deprovisions, and no provision",
-			len(arrivals), own)
-	}
+	diff.AtLeast(t, len(arrivals), 50, "requests")
+	return own
 }
 
 func kindOf(it arrival) string {
@@ -417,6 +434,8 @@ func kindOf(it arrival) string {
 		return "fetch"
 	case it.method == http.MethodPut:
 		return "provision"
+	case it.method == http.MethodPatch:
+		return "update"
 	}
 	return "deprovision"
 }

@@ -27,7 +27,7 @@ const (
 	usual    = 50 * time.Millisecond   // at most, of any other
 )
 
-// slowFolders are folders where each creation and each deletion pauses before and after it is done, and sometimes fails
+// slowFolders are folders where each creation, update and deletion pauses before and after it is done, and sometimes fails
 // then. It writes down the key of two that work at it at once, in the file together of the state folder.
 type slowFolders struct {
 	*folders.Folders
@@ -38,6 +38,7 @@ type slowFolders struct {
 // backendCalls are the calls of slowFolders but that of its credentials.
 type backendCalls interface {
 	broker.BindingBackend
+	broker.UpdateBackend
 	broker.LockBackend
 	broker.SyncBackend
 	broker.TiedBackend
@@ -70,6 +71,11 @@ func (s *slowFolders) Create(ctx context.Context, request broker.Request) error 
 // Delete deletes as the folders do.
 func (s *slowFolders) Delete(ctx context.Context, request broker.Request) error {
 	return s.work(ctx, request.Key, func() error { return s.Folders.Delete(ctx, request) })
+}
+
+// Update updates as the folders do.
+func (s *slowFolders) Update(ctx context.Context, update broker.Update) error {
+	return s.work(ctx, update.Key, func() error { return s.Folders.Update(ctx, update) })
 }
 
 // CreateBinding creates a binding as the folders do.

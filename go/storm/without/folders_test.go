@@ -65,6 +65,21 @@ func TestFailures(t *testing.T) {
 	}
 }
 
+// An update fails before it was done, or after it.
+func TestFailingUpdates(t *testing.T) {
+	ctx := context.Background()
+	s, _ := newSlowFolders(t)
+	check(t, s.Create(ctx, request(instance)))
+	update := broker.Update{
+		Request: request(instance), From: broker.Settings{PlanID: now.String()}, To: broker.Settings{PlanID: "other"},
+	}
+	for pause, want := range []broker.There{broker.None, broker.Whole} {
+		s.pause = failingAt(pause + 1)
+		diff.ErrorIs(t, s.Update(ctx, update), errFails, "pause %d fails", pause+1)
+		diff.Equal(t, diff.Value(s.LookUpdate(ctx, update))(t), want, "pause %d fails", pause+1)
+	}
+}
+
 // Two that work at a key at once are written down, and two at different keys aren't.
 func TestTogether(t *testing.T) {
 	ctx := context.Background()
@@ -97,7 +112,9 @@ func TestForgetful(t *testing.T) {
 	_, hasCredentials := made.(broker.CredentialsBackend)
 	_, hasOwner := made.(broker.TiedBackend)
 	_, hasLocks := made.(broker.LockBackend)
-	diff.Equal(t, [3]bool{hasCredentials, hasOwner, hasLocks}, [3]bool{false, true, true}, "credentials, owner, locks")
+	_, hasUpdates := made.(broker.UpdateBackend)
+	diff.Equal(t, [4]bool{hasCredentials, hasOwner, hasLocks, hasUpdates}, [4]bool{false, true, true, true},
+		"credentials, owner, locks, updates")
 }
 
 func TestPauseEndsWithItsContext(t *testing.T) {

@@ -434,7 +434,7 @@ func newTestBroker(t *testing.T, part string, options broker.ServiceOptions) *te
 	sold := diff.Value(folders.New(s.top))(t)
 	store, locks, err := StoreAndLocks(ctx, part, openEmpty(t), sold.Locks())
 	check(t, err)
-	read := diff.Value(broker.NewCatalogue(goods.Document(), true))(t)
+	read := diff.Value(broker.NewCatalogue(goods.Document(), broker.Abilities{Bindings: true}))(t)
 	users := diff.Value(broker.NewUsers(map[string][]string{"u": {"p"}}))(t)
 	made := broker.NewService(read, store, sold, locks, options, broker.Silent{})
 	s.store = store

@@ -41,7 +41,7 @@ type shop struct {
 
 func openShop(ctx context.Context, c Options, folder string) (s *shop, err error) {
 	s = &shop{served: make(chan error, 1)}
-	catalogue, err := broker.NewCatalogue(goods.Document(), true)
+	catalogue, err := broker.NewCatalogue(goods.Document(), broker.Abilities{Bindings: true})
 	if err != nil {
 		return nil, err
 	}

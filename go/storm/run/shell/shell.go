@@ -45,22 +45,41 @@ func Rows(ctx context.Context, command string, ids int) ([][]string, error) {
 }
 
 func (l limits) rows(ctx context.Context, command string, ids int) (rows [][]string, err error) {
+	lines, err := l.lines(ctx, command)
+	for _, line := range lines {
+		words := strings.Fields(line)
+		if len(words) != ids {
+			return nil, fmt.Errorf("the line %.100q doesn't have %d ids", line, ids)
+		}
+		rows = append(rows, words)
+	}
+	return rows, err
+}
+
+// Lines runs a command as Rows does, and returns each line that it prints, without the spaces around it. Empty lines are
+// left out.
+//
+// Errors: the command fails, or is killed; a line is longer than 1 MiB.
+func Lines(ctx context.Context, command string) ([]string, error) {
+	return usualLimits().lines(ctx, command)
+}
+
+// longestLine is how long a line of a command may be, in bytes.
+const longestLine = 1 << 20
+
+func (l limits) lines(ctx context.Context, command string) (lines []string, err error) {
 	printed, said, err := l.run(ctx, command, true)
 	if err != nil {
 		return nil, fmt.Errorf("%w%s", err, lastLineOf(said))
 	}
-	lines := bufio.NewScanner(bytes.NewReader(printed))
-	for lines.Scan() {
-		words := strings.Fields(lines.Text())
-		switch {
-		case len(words) == 0:
-		case len(words) != ids:
-			return nil, fmt.Errorf("the line %.100q doesn't have %d ids", lines.Text(), ids)
-		default:
-			rows = append(rows, words)
+	scanner := bufio.NewScanner(bytes.NewReader(printed))
+	scanner.Buffer(nil, longestLine)
+	for scanner.Scan() {
+		if line := strings.TrimSpace(scanner.Text()); line != "" {
+			lines = append(lines, line)
 		}
 	}
-	return rows, lines.Err()
+	return lines, scanner.Err()
 }
 
 // run runs a command. If it is read, run returns what it prints on its standard output and on its standard error.

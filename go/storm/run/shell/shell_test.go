@@ -24,6 +24,14 @@ func TestRows(t *testing.T) {
 	diff.Equal(t, len(diff.Value(Rows(context.Background(), "true", 1))(t)), 0, "rows of no output")
 }
 
+// Each line is returned as it is, except empty ones and the spaces around it. A line that is too long is an error.
+func TestLines(t *testing.T) {
+	lines := diff.Value(Lines(context.Background(), `printf 'a {"b":  1}\n\n  c\td \n'`))(t)
+	diff.Check(t, lines, []string{`a {"b":  1}`, "c\td"}, "the lines")
+	diff.ErrorContains(t, diff.Err(Lines(context.Background(), "head -c 2000000 /dev/zero")), "too long", "a long line")
+	diff.ErrorContains(t, diff.Err(Lines(context.Background(), "exit 3")), "exit status 3", "a command that fails")
+}
+
 // A command that fails says nothing, and the error has the last line of its standard error.
 func TestRowsFail(t *testing.T) {
 	for command, wanted := range map[string]string{
