@@ -13,8 +13,11 @@ whose id ends with this digit. `HELD` and `RECORD` are the short forms of held_t
     P abandon RECORD             changed, state abandoned   B credentials                  work, begun and ended
     P stop, B stop               stopped                    B answer VISIT STATUS BODY     answered
 
+    B update VISIT UPDATES       changed: what is kept of updates alone
+    B look-update FOUND          work, begun and ended      B do-update                    work, begun and ended
+
 Of a look, `B begin look` and `B end look FOUND` are the two lines. `visit=VISIT` of a work names the request that it is
-for.
+for. `UPDATES` is a short form of updates_text.
 
 Each change has as `before` what the last change of its row has left, unless `from HELD` or `from RECORD` follows. A
 word `!undone` or `!doubtful` behind a change has the line `undone` follow. Each word `@DIGEST` names credentials, and
@@ -26,6 +29,12 @@ What a line names is that of the story, unless one of these words follows: `plan
 `state=STATE` (of a change at the platform; else it is that of the record). Of a change at the broker,
 `work-plan=sync|async` and `work-id=other` are of the pending work alone. `committed=NUMBER` of an arrival is the last
 change that was committed then. `P command - state=ordered` is a new order.
+
+An Update names what these words say: `to=sync|async`, `size=DIGIT` (parameters), `version=DIGIT`, `number=NUMBER`. So
+does a creation its version. What is kept of the updates of an instance stays while anything is held of the instance,
+unless `kept=UPDATES` follows a change. `sees=UPDATES` is what an answer has seen of it besides `saw`, and
+`sees-instance=HELD+UPDATES` what the answer to a request about a binding has seen of the instance.
+`gives=SETTINGS/NUMBER` is what the Fetch of an instance is answered with.
 """
 
 from __future__ import annotations
@@ -41,9 +50,12 @@ BINDING = "00000000-0000-0000-0000-00000000000b"
 SERVICE = "00000000-0000-0000-0000-0000000000a0"
 OTHER = "00000000-0000-0000-0000-0000000000ff"
 PLANS = {"sync": "00000000-0000-0000-0000-0000000000b1", "async": "00000000-0000-0000-0000-0000000000b2"}
-NAMED = "plan", "service", "attributes", "accepts", "work-plan", "work-id", "state", "visit", "committed", "effect"
+NAMED = tuple(
+    "plan service attributes accepts work-plan work-id state visit committed effect to size version number kept sees "
+    "sees-instance gives".split()
+)
 """What a line may name in another way than its story does."""
-METHODS = {"claim": "record", "command": "record", "abandon": "record", "credentials": "known"}
+METHODS = {"claim": "record", "command": "record", "abandon": "record", "credentials": "known", "look-update": "look"}
 """The methods of Journal for the verbs that have another name."""
 EMPTY: Mapping[str, str] = {}
 
@@ -92,8 +104,38 @@ def record_text(form: str, plan: str, named: Mapping[str, str] = EMPTY) -> str:
     return compact({"attempt": int(attempt), "out": out[0] if out else None, **ids, "state": state, "version": 1})
 
 
+def settings_of(form: str) -> dict[str, str]:
+    """Settings. The form is PLAN, PLAN.DIGIT or PLAN.DIGIT.DIGIT: the digests of the parameters and of the version."""
+    plan, parameters, version = (*form.split("."), "0", "0")[:3]
+    return {"parameters": parameters * 64, "plan": PLANS[plan], "version": version * 64}
+
+
+def fetched_of(form: str) -> dict[str, Any]:
+    """What a line says of the answer to the Fetch of an instance. The form is SETTINGS/NUMBER."""
+    settings, number = form.split("/")
+    found: dict[str, Any] = settings_of(settings)
+    if found["version"] == "0" * 64:
+        del found["version"]
+    return found | ({"number": int(number)} if number != "0" else {})
+
+
+def updates_text(form: str) -> str:
+    """The text of what is kept of updates. The form is `-` for none, or PHASE/NUMBER/SETTINGS, with /SETTINGS behind it
+    to which the work or the operation leads.
+    """
+    if form == "-":
+        return ""
+    phase, number, settings, *to = form.split("/")
+    goal = settings_of(to[0]) if to else None
+    return compact({"number": int(number), "phase": phase, "settings": settings_of(settings), "to": goal, "version": 1})
+
+
 def started(
-    first_poll: bool = False, binding: str = "sync", retrievable: bool = True, locks_can_be_lost: bool = True
+    first_poll: bool = False,
+    binding: str = "sync",
+    retrievable: bool = True,
+    locks_can_be_lost: bool = True,
+    fetchable: bool | None = True,
 ) -> dict[str, Any]:
     """The members of the line `started` of a broker that sells a synchronous and an asynchronous plan."""
     plans = [
@@ -105,6 +147,7 @@ def started(
             "mode": mode,
             "binding": binding,
             "retrievable": retrievable,
+            **({} if fetchable is None else {"instances_retrievable": fetchable}),
         }
         for mode, plan in PLANS.items()
     ]
@@ -122,6 +165,8 @@ class Journal:
     time: int = 1_700_000_000_000_000
     lines: dict[str, list[str]] = field(default_factory=dict)
     texts: dict[tuple[str, str, str], str] = field(default_factory=dict)
+    kept: dict[str, str] = field(default_factory=dict)
+    """What is kept of the updates of each instance."""
     changes: dict[str, int] = field(default_factory=dict)
     requests: dict[tuple[str, str], str] = field(default_factory=dict)
     named: dict[str, str] = field(default_factory=dict)
@@ -152,9 +197,10 @@ class Journal:
         more |= {"effect": self.named["effect"].replace("_", " ")} if "effect" in self.named else {}
         more |= {"credentials": digest} if digest else {}
         more |= {"life": 1, "life_before": 0} if "!returned" in flags else {}
-        if verb in ("create", "delete"):
-            self._begin(who, verb, [verb], _but(more, "credentials"))
-            self._end(who, verb, [verb, "done"], more)
+        if verb in ("create", "delete", "do-update"):
+            call = verb.rpartition("-")[2]
+            self._begin(who, verb, [call], _but(more, "credentials"))
+            self._end(who, verb, [call, "done"], more)
             return
         saw = next((flag[4:] for flag in flags if flag.startswith("saw=")), None)
         of = binding or instance
@@ -183,8 +229,17 @@ class Journal:
         row = (who[0], more["instance"], more.get("binding", ""))
         self.changes[who] = self.changes.get(who, 0) + 1
         found = self.texts.get(row, "") if before is None else before
-        self.write(who, "changed", {"change": self.changes[who], **more, "before": found, "after": after})
+        kept = self._keep(more["instance"], after) if who[0] == "B" and "binding" not in more else {}
+        self.write(who, "changed", {"change": self.changes[who], **more, "before": found, "after": after, **kept})
         self.texts[row] = after
+
+    def _keep(self, instance: str, after: str) -> dict[str, str]:
+        """What a change says of what is kept of updates."""
+        before = self.kept.get(instance, "")
+        is_held = after and after != held_text("tombstone", self.plan, instance)
+        left = updates_text(self.named["kept"]) if "kept" in self.named else before if is_held else ""
+        self.kept[instance] = left
+        return {name: text for name, text in (("updates_before", before), ("updates_after", left)) if text}
 
     # ---- the platform
 
@@ -217,7 +272,11 @@ class Journal:
         visit, request, kind = rest
         self.requests[who, visit] = request
         asks = {"kind": kind, "accepts": "accepts" not in self.named, **ids_of(self.plan, self.named)}
-        asks |= {"committed": int(self.named["committed"])} if "committed" in self.named else {}
+        asks |= {name: int(self.named[name]) for name in ("committed", "number") if name in self.named}
+        asks |= {"version": self.named["version"] * 64} if "version" in self.named else {}
+        asks |= {"parameters": self.named["size"] * 64} if "size" in self.named else {}
+        if kind == "update":
+            asks = _but(asks, "plan") | ({"plan": PLANS[self.named["to"]]} if "to" in self.named else {})
         attributes = self.named.get("attributes", "0")
         if kind == "provision" and attributes != "-":
             asks["attributes"] = attributes * 64
@@ -229,14 +288,27 @@ class Journal:
         visit = {"visit": int(rest[0])} if rest[0] != "0" else {}
         self._changed(who, {**visit, **more}, held_text(rest[1], self.plan, of, self.named), before)
 
+    def _update(self, who: str, _: str, rest: list[str], more: dict[str, Any]) -> None:
+        self.named["kept"] = rest[1]
+        if rest[2:3] == ["from"]:
+            self.kept[more["instance"]] = updates_text(rest[3])
+        visit = {"visit": int(rest[0])} if rest[0] != "0" else {}
+        self._changed(who, {**visit, **more}, self.texts.get((who[0], more["instance"], ""), ""), None)
+
     def _answer(self, who: str, _: str, rest: list[str], more: dict[str, Any]) -> None:
+        more |= {"saw_updates": updates_text(self.named["sees"])} if "sees" in self.named else {}
+        more |= fetched_of(self.named["gives"]) if "gives" in self.named else {}
+        if "sees-instance" in self.named:
+            held, _, kept = self.named["sees-instance"].partition("+")
+            more["saw_instance"] = held_text(held, self.plan, more["instance"])
+            more["saw_instance_updates"] = updates_text(kept or "-")
         said = {"status": int(rest[1]), "body": rest[2] if rest[2:] else "empty"}
         request = {"request": self.requests.get((who, rest[0]), "")}
         self.write(who, "answered", {"visit": int(rest[0]), **request, **more, **said})
 
-    def _look(self, who: str, _: str, rest: list[str], more: dict[str, Any]) -> None:
-        self.write(who, "work", {**more, "call": "look", "stage": "begun"})
-        self.write(who, "work", {**more, "call": "look", "stage": "ended", "found": rest[0], "result": "done"})
+    def _look(self, who: str, verb: str, rest: list[str], more: dict[str, Any]) -> None:
+        self._begin(who, verb, [verb], more)
+        self._end(who, verb, [verb, rest[0]], more)
 
     def _known(self, who: str, _: str, __: list[str], more: dict[str, Any]) -> None:
         self.write(who, "work", {**_but(more, "credentials"), "call": "credentials", "stage": "begun"})
@@ -246,7 +318,7 @@ class Journal:
         self.write(who, "work", {**more, "call": rest[0], "stage": "begun"})
 
     def _end(self, who: str, _: str, rest: list[str], more: dict[str, Any]) -> None:
-        how = {"found": rest[1], "result": "done"} if rest[0] == "look" else {"result": rest[1]}
+        how = {"found": rest[1], "result": "done"} if rest[0].startswith("look") else {"result": rest[1]}
         self.write(who, "work", {**more, "call": rest[0], "stage": "ended", **how})
 
     def _stop(self, who: str, _: str, __: list[str], ___: dict[str, Any]) -> None:

@@ -28,9 +28,17 @@ WRONG: dict[str, Any] = {
 }
 
 
+UPDATED = """B arrive 7 u1 update to=async size=5 version=7 number=3
+B update 7 pending/3/sync/async.5.7 effect=update_sync; B look-update whole visit=7
+B update 7 settled/3/async.5.7 effect=end-update_done; B answer 7 200; B arrive 8 f2 fetch
+B answer 8 200 saw=ready sees=settled/3/async.5.7 gives=async.5.7/3
+B arrive 9 u2 update; B answer 9 200 saw=ready sees=settled/3/async.5.7 effect=update_sync
+"""
+
+
 def texts() -> list[tuple[str, dict[str, Any]]]:
     """The process and the members of each line of a story."""
-    journal = Journal().tell(BOUND + "P send f1 fetch 0 of binding; P lose f1 of binding")
+    journal = Journal().tell(BOUND + UPDATED + "P send f1 fetch 0 of binding; P lose f1 of binding")
     journal.write("B", "undone", {"instance": INSTANCE, "change": 99, "doubtful": True})
     return [(who, json.loads(line)) for who, lines in journal.lines.items() for line in lines]
 

@@ -41,7 +41,7 @@ pytestmark = pytest.mark.usefixtures("library")
 
 
 def story_of(journal: Journal) -> Story:
-    lines, settings = [], {}
+    lines, settings, naming = [], {}, set()
     for at, texts in enumerate(journal.lines.values()):
         for number, text in enumerate(texts):
             members = json.loads(text)
@@ -49,7 +49,8 @@ def story_of(journal: Journal) -> Story:
                 lines.append(read(Position(at, number), text.encode()))
             elif members["side"] == "broker":
                 settings[members["process"]] = settings_in(text.encode())
-    return story(INSTANCE, lines, settings, {})
+                naming |= {members["process"]} if members.get("names_events") else set()
+    return story(INSTANCE, lines, settings, {}, (), naming)
 
 
 def short(text: str) -> str:

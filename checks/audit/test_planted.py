@@ -4,17 +4,22 @@ platform has one instance created. The audit has to name the first line of the j
 
 from __future__ import annotations
 
+import base64
+import http.client
 import json
 import shlex
+from contextlib import closing
 from pathlib import Path
 from typing import Any, NamedTuple
 
 import commands
 import pytest
 from audit.conftest import TOP, Audit, Ran
+from audit.journals import INSTANCE
 from audit.running import ENVIRONMENT, Platform, serving
 from building import SHIPPED, building
 from osb_audit.calls import TOGETHER
+from osb_audit.updates import ANSWERED, IDLE, UNSEEN
 from osb_audit.walk import UNNAMED
 from ports import free_address
 
@@ -40,14 +45,14 @@ class Slip(NamedTuple):
     journal: str
 
 
-TRANSACT = "\t\tdefault:\n\t\t\tdriver, err = s.transact(ctx, driver, c)\n"
-STEP = "\t\ttransaction, next, err = s.step(driver, snapshot, c)\n"
+TRANSACT = "\t\tdefault:\n\t\t\tat, err = s.transact(ctx, at, c)\n"
+STEP = "\t\tit, next, err = s.step(d, snapshot, c)\n"
 SLIPS = {
     "an answer before the commit": Slip(
         TRANSACT,
         """
         case osb.StageEnd:
-            late, beside := driver, *c
+            late, beside := at, *c
             go func() {
                 wait, cancel := context.WithTimeout(context.Background(), 3600e9)
                 defer cancel()
@@ -56,9 +61,9 @@ SLIPS = {
             }()
             held := c.entry.Holding
             row := osb.Reading{
-                Holding: held, Number: driver.Number(), ID: c.key.ID(), RowMode: s.modeOf(c.key, rowOf(held)),
+                Holding: held, Number: at.instance.Number(), ID: c.key.ID(), RowMode: s.modeOf(c.key, rowOf(held)),
             }
-            early, err := driver.Read(row)
+            early, err := at.instance.Read(osb.UpdateReading{Reading: row})
             c.response = Response{Answer: early.Committed().Answer()}
             return err
         """
@@ -73,7 +78,7 @@ SLIPS = {
         STEP,
         STEP
         + """
-        for early := transaction.Committed(); err == nil && early.Stage() == osb.StageWork; {
+        for early := it.Committed(); err == nil && early.Stage() == osb.StageWork; {
             early, err = s.work(ctx, early, c)
         }
         """,
@@ -97,7 +102,7 @@ SLIPS = {
         """
         case osb.StageEnd:
             entry := c.entry
-            if driver, err = s.transact(ctx, driver, c); err == nil {
+            if at, err = s.transact(ctx, at, c); err == nil {
                 err = s.change(ctx, c.key, func(Snapshot) (*Entry, error) {
                     mode := s.modeOf(c.key, rowOf(entry.Holding))
                     entry.Holding, _, err = entry.Holding.End(mode, osb.OutcomeBefore)
@@ -265,6 +270,111 @@ def test_planted_stale_answers(audit: Audit, platform: Path, tmp_path: Path) -> 
             assert shop.create("--plan", "by-worker", "--id", "one", "--wait=60") == 0
             assert shop.remove("one", "--wait=60") == 0
     assert_found(audit(tmp_path / "journals"), STALE)
+
+
+UPDATE_SLIPS = {
+    "an update that counts as done before it is": (
+        "broker/worker.go",
+        Slip(
+            "\t\tthere, settings = Whole, c.before\n",
+            "\t\tthere, settings = Whole, c.to\n",
+            {"side": "broker", "event": "changed", "effect": "end-update done"},
+            "",
+            UNSEEN,
+            "whole",
+            "absent",
+        ),
+    ),
+    "an update before its commit": (
+        SOURCE,
+        Slip(
+            STEP,
+            STEP
+            + """
+            for early := it.Committed(); err == nil && early.IsUpdate() && early.Stage() == osb.StageWork; {
+                early, err = s.work(ctx, early, c)
+            }
+            """,
+            {"side": "broker", "event": "work", "call": "update", "stage": "begun"},
+            "",
+            IDLE,
+            "no call",
+            "update",
+        ),
+    ),
+    "an update that is done, and is answered as one that goes on": (
+        "broker/service.go",
+        Slip(
+            "\tdone, answer := c.done, it.Committed().Answer()\n",
+            """
+            done, answer := c.done, it.Committed().Answer()
+            if answer.Status == http.StatusOK {
+                answer.Status = http.StatusAccepted
+            }
+            """,
+            {"side": "broker", "event": "answered", "status": 202},
+            "",
+            ANSWERED,
+            "200",
+            "202",
+        ),
+    ),
+}
+UPDATEABLE = {
+    "id": "s",
+    "name": "folder",
+    "description": "A folder",
+    "bindable": True,
+    "plan_updateable": True,
+    "instances_retrievable": True,
+    "plans": [
+        {"id": "now", "name": "now", "description": "at once"},
+        {"id": "later", "name": "later", "description": "updates later", "x-osb-asynchronous-updates": True},
+    ],
+}
+ASKS = (
+    ("PATCH", "", {"parameters": {"label": "a"}, "x-osb-update": 2}),
+    ("PATCH", "", {"parameters": {"label": "a"}, "x-osb-update": 2}),
+    ("PATCH", "", {"parameters": {"label": "b"}, "x-osb-update": 1}),
+    ("PATCH", "", {"plan_id": "none", "x-osb-update": 3}),
+    ("GET", "", None),
+    ("PATCH", "?accepts_incomplete=true", {"plan_id": "later"}),
+    ("GET", "/last_operation", None),
+)
+"""What another client sends: an update, that again, one with an older number, one that the catalogue rejects, a Fetch,
+an update that goes on, and a Poll.
+"""
+
+
+def answered(at: str, method: str, path: str, members: dict[str, Any] | None) -> int:
+    """The status of the answer to a request about the instance."""
+    login = base64.b64encode(b"platform:secret").decode()
+    headers = {"Authorization": f"Basic {login}", "X-Broker-API-Version": "2.17"}
+    body = None if members is None else json.dumps({"service_id": "s", **members})
+    with closing(http.client.HTTPConnection(at, timeout=60)) as connection:
+        connection.request(method, f"/v2/service_instances/{INSTANCE}{path}", body, headers)
+        return connection.getresponse().status
+
+
+def updated(broker: Path, platform: Path, folder: Path) -> list[int]:
+    """Has the platform create an instance, and another client update it. Returns the statuses of the answers."""
+    at, catalogue = free_address(), folder / "catalogue.json"
+    catalogue.write_text(json.dumps({"services": [UPDATEABLE]}))
+    with serving(broker, folder, at, "--catalog", str(catalogue)):
+        shop = Platform(platform, folder, at)
+        shop.once()  # it asks for the catalogue
+        assert shop.create("--plan", "now", "--id", INSTANCE) == 0
+        shop.once()
+        return [answered(at, *asks) for asks in ASKS]
+
+
+@pytest.mark.long(10)
+@pytest.mark.parametrize("name", [None, *UPDATE_SLIPS])
+def test_planted_in_updates(audit: Audit, broker: Path, platform: Path, tmp_path: Path, name: str | None) -> None:
+    file, slip = UPDATE_SLIPS[name] if name else ("", None)
+    statuses = updated(built(slip, tmp_path, file=file) if slip else broker, platform, tmp_path)
+    assert slip or statuses == [200, 200, 409, 400, 200, 202, 200], statuses
+    assert_found(audit(tmp_path / "journals"), slip)
 
 
 SLOW = """#!/bin/sh

@@ -376,7 +376,7 @@ BAD = {
     ),
     "a kind that is an object": (
         f'{HEAD}"arrived",{KEY},"visit":1,"request":"r","kind":{{}}}}',
-        "kind of arrived of a broker has to be one of provision, poll, deprovision, fetch, and is {}",
+        "kind of arrived of a broker has to be one of provision, poll, deprovision, fetch, update, and is {}",
     ),
     "a state that is a number": (
         f'{HEAD.replace("broker", "platform")}"changed",{KEY},"change":1,"before":"","after":"","cause":"claim",'

@@ -19,6 +19,8 @@ Worker = tuple[str, Optional[VisitName], str]
 """Who works: a process, the visit that it works for, if there is one, and the life."""
 _ENDS = {"create": "whole", "delete": "absent"}
 """The calls that change the resource, and what they leave."""
+OF_UPDATES = "look-update", "update"
+"""Those that leave it whole, and are judged with the updates (updates.py)."""
 
 
 TOGETHER = "two workers are at work at once, and the locks of the broker can't be lost"
@@ -134,6 +136,8 @@ class Calls:
         worker = worker_of(line)
         self._check_alone(line, worker)
         self.open[worker, call.name] = call
+        if call.name in OF_UPDATES:
+            return
         run = self.runs.get(worker) or _Run()
         if not is_idle:
             self.runs[worker] = run
@@ -165,7 +169,7 @@ class Calls:
                 yield Seen(_ENDS[call.name])
 
     def _end(self, line: Line, life: Life, call: _Call | None) -> None:
-        if line.of.get("result") != "done":
+        if line.of.get("result") != "done" or line.of["call"] in OF_UPDATES:
             return  # the next look finds what is left
         now, found = Seen(life.resource, life.credentials), _found(line, life, call)
         run = self.runs.get(worker_of(line))

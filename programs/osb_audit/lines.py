@@ -53,6 +53,27 @@ class Line:
         return self.process, self.of["change"]
 
     @property
+    def before(self) -> str:
+        """What a change has found: the text of the record or of the holding, and behind it what was kept of updates."""
+        return str(self.of["before"]) + str(self.of.get("updates_before", ""))
+
+    @property
+    def after(self) -> str:
+        """What a change has left, likewise."""
+        return str(self.of["after"]) + str(self.of.get("updates_after", ""))
+
+    @property
+    def saw(self) -> str | None:
+        """What an answer was decided on, likewise, or None if it doesn't say so."""
+        return None if "saw" not in self.of else str(self.of["saw"]) + str(self.of.get("saw_updates", ""))
+
+    @property
+    def saw_instance(self) -> str | None:
+        """The same of a binding's instance."""
+        found = self.of.get("saw_instance")
+        return None if found is None else str(found) + str(self.of.get("saw_instance_updates", ""))
+
+    @property
     def visit(self) -> tuple[str, int] | None:
         """The request that the broker carries out, or None."""
         number = self.of.get("visit", 0)
@@ -66,16 +87,18 @@ class BadLine(Exception):
 # ---- the members of a line, and what each has to be
 
 
-class _Guids:
-    """All texts that are GUIDs, as a journal has them."""
+class _Form:
+    """All texts of a form."""
 
-    _form = re.compile(r"[0-9a-f]{8}(?:-[0-9a-f]{4}){3}-[0-9a-f]{12}")
+    def __init__(self, form: str) -> None:
+        self._form = re.compile(form)
 
     def __contains__(self, text: Any) -> bool:
         return self._form.fullmatch(text) is not None
 
 
-GUIDS = _Guids()
+GUIDS = _Form(r"[0-9a-f]{8}(?:-[0-9a-f]{4}){3}-[0-9a-f]{12}")
+"""GUIDs, as a journal has them."""
 _LONGEST = 60
 """How much of a value is reported at most."""
 MOST = (1 << 64) - 1
@@ -96,37 +119,52 @@ def _one_of(*texts: str) -> _Value:
 
 _TEXT, _TRUTH = _Value(str, None, "a text"), _Value(bool, None, "true or false")
 _GUID = _Value(str, GUIDS, "a GUID in lower case")
+_DIGEST = _Value(str, _Form("[0-9a-f]{64}"), "64 hexadecimal digits in lower case")
 _NUMBER = _Value(int, range(MOST + 1), "a number from 0 to 2^64 - 1")
 _STATUS = _Value(int, range(100, 1000), "a number from 100 to 999")
 _ENDS = "end done", "end before", "end after", "end refused-400", "end refused-422"
 CHANGES = "arrive", *_ENDS, "finish ok", "finish fail", "give-up-waiting"
 """What a driver of a broker names a change."""
+ALLOWED = "sync", "async", "rejected-400", "rejected-422", "maintenance-conflict"
+"""What a catalogue has for an Update."""
+UPDATES = (
+    *(f"update {allowed}" for allowed in ALLOWED),
+    *(f"end-update {how}" for how in ("done", "before", "after", "refused-400", "refused-422", "failed")),
+    "finish-update ok",
+    "finish-update fail",
+)
+"""What a driver of a broker names a change of what is kept of updates."""
 _STEPS = product(("", "timeout"), ("", "expire", "retry", "remove"), ("", "send"))
 STEPS = "create", *(" ".join(filter(None, steps)) for steps in _STEPS if any(steps))
 """What a driver of a platform names a change that takes no answer."""
 _TYPES = {
-    **dict.fromkeys("time visit change committed life life_before attempt".split(), _NUMBER),
+    **dict.fromkeys("time visit change committed life life_before attempt number".split(), _NUMBER),
     **dict.fromkeys("instance binding".split(), _GUID),
+    **dict.fromkeys("parameters version".split(), _DIGEST),
     **dict.fromkeys("accepts doubtful".split(), _TRUTH),
     "status": _STATUS,
-    "kind": _one_of("provision", "poll", "deprovision", "fetch"),
+    "kind": _one_of("provision", "poll", "deprovision", "fetch", "update"),
     "body": _one_of(
         "malformed", "empty", "in-progress", "succeeded", "failed", "async-required", "concurrency-error", "other-error"
     ),
-    "call": _one_of("look", "create", "delete", "credentials"),
+    "call": _one_of("look", "create", "delete", "credentials", "look-update", "update"),
     "stage": _one_of("begun", "ended"),
     "result": _one_of("done", "failed", "rejected"),
     "found": _one_of("absent", "part", "whole"),
-    "effect": _one_of("nothing", "put-off", "take", *CHANGES, *STEPS),
+    "effect": _one_of("nothing", "put-off", "take", *CHANGES, *UPDATES, *STEPS),
 }
 """What each member has to be. All others are texts."""
+_SAW = "saw saw_updates saw_instance saw_instance_updates"
 _OF_LIFE = " time process instance binding instance_id binding_id"
 _EVENTS = {
-    ("broker", "arrived"): "visit! request! kind! service plan accepts attributes committed",
-    ("broker", "changed"): "change! before! after! credentials visit life life_before effect",
+    ("broker", "arrived"): "visit! request! kind! service plan accepts attributes number parameters version committed",
+    (
+        "broker",
+        "changed",
+    ): "change! before! after! updates_before updates_after credentials visit life life_before effect",
     ("broker", "undone"): "change! doubtful",
     ("broker", "work"): "call! stage! result found visit credentials",
-    ("broker", "answered"): "visit! status! body! request credentials saw saw_instance effect",
+    ("broker", "answered"): "visit! status! body! request credentials plan parameters version number effect " + _SAW,
     ("platform", "changed"): "change! before! after! cause! credentials service plan broker state attempt effect",
     ("platform", "undone"): "change! doubtful",
     ("platform", "sent"): "request! kind! service plan broker attempt accepts",
@@ -150,6 +188,7 @@ OF_SOLD = {
     "mode": _one_of("sync", "async", "none"),
     "binding": _one_of("sync", "async", "none"),
     "retrievable": _TRUTH,
+    "instances_retrievable": _TRUTH,
 }
 """Those of a plan in it."""
 
@@ -188,7 +227,7 @@ def read(position: Position, text: bytes) -> Line:
         raise BadLine("it has a member twice") from error
     check(members, known, f"{event} of a {side}")
     needed = NEEDED[side, event]
-    if event == "work" and (members.get("call"), members.get("result")) == ("look", "done"):
+    if event == "work" and members.get("call") in ("look", "look-update") and members.get("result") == "done":
         needed += ("found",)
     elif (side, event) == ("platform", "answered") and "lost" not in members:
         needed += ("status",)

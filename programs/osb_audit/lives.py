@@ -84,6 +84,11 @@ class Visit:
         return str(found) if found else None
 
     @property
+    def version(self) -> bytes:
+        """The digest of the version that an Update or the creation of an instance names, or zeroes for none."""
+        return bytes.fromhex(self.arrived.of.get("version", "")) or bytes(32)
+
+    @property
     def said(self) -> Said | None:
         """What it was answered, or None if it never was."""
         return (self.answered.of["status"], self.answered.of["body"]) if self.answered else None
@@ -116,6 +121,7 @@ class Life:
     """The numbers of the requests whose answer or timeout was taken."""
     held: Held = NOTHING
     held_text: str = ""
+    """With what is kept of updates behind it."""
     held_line: Line | None = None
     terms: Terms = NO_TERMS
     """Of what is held."""

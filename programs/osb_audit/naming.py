@@ -40,9 +40,9 @@ def _parts(plan: Plan | None, *more: object) -> tuple[object, ...]:
 # ---- a broker
 
 
-def check_held(line: Line, life: Life, visit: Visit | None, after: Held, terms: Terms) -> None:
+def check_held(line: Line, life: Life, visit: Visit | None, asked: Plan | None, after: Held, terms: Terms) -> None:
     """Raises `Stopped` if what is held after a change isn't what was held before, or what the request asks for that
-    began it.
+    began it. `asked` is the plan that the request names, as the tables see it.
     """
     if not after.is_held:
         if terms.attributes != NO_ATTRIBUTES:
@@ -52,19 +52,19 @@ def check_held(line: Line, life: Life, visit: Visit | None, after: Held, terms: 
     if plan is None:  # nothing was held
         if visit is None:
             return  # nothing begins without a request: that is reported
-        why, plan, attributes = BEGUN, visit.plan or terms.plan, visit.attributes or terms.attributes
+        why, plan, attributes = BEGUN, asked or terms.plan, visit.attributes or terms.attributes
     if plan != terms.plan or attributes != terms.attributes:
         raise _differs(line, why, _parts(plan, attributes), _parts(terms.plan, terms.attributes))
     if after.work != "-":
-        _check_work(line, life, visit, after, terms)
+        _check_work(line, life, visit, asked, after, terms)
 
 
-def _check_work(line: Line, life: Life, visit: Visit | None, after: Held, terms: Terms) -> None:
+def _check_work(line: Line, life: Life, visit: Visit | None, asked: Plan | None, after: Held, terms: Terms) -> None:
     """The pending work is the request that began it: about the same life, with the plan of the row."""
     is_begun = visit is not None and life.held.work == "-"
     plan, accepts = terms.plan, after.accepts
     if visit is not None and is_begun:
-        plan, accepts = visit.plan or plan, visit.accepts
+        plan, accepts = asked or plan, visit.accepts
     if plan != terms.work_plan or life.id != terms.work_id or accepts != after.accepts:
         wanted = _parts(plan, terms.attributes, life.id, accepts)
         raise _differs(line, WORK, wanted, _parts(terms.work_plan, terms.attributes, terms.work_id, after.accepts))

@@ -34,7 +34,7 @@ def ordered(lines: Iterable[Line], doubts: Doubts, without: Collection[Change] =
     uncommitted = _uncommitted(left, undone, doubts, without)
     counted = [line for line in left if line not in uncommitted]
     unsure = (line for line in _last(counted) if line.change not in undone and doubts.get(line.change, True) is None)
-    unshown = [line for line in unsure if line.of["before"] != line.of["after"]]
+    unshown = [line for line in unsure if line.before != line.after]
     return Counted(_postponed(_chained(counted), undone), unshown)
 
 
@@ -57,13 +57,11 @@ def shown(lines: Iterable[Line], doubts: Doubts) -> Iterator[tuple[Change, bool]
     following: dict[Row, Line] = {}
     for line in reversed([line for line in left if line.event == "changed"]):
         row, is_lost = row_of(line), line in uncommitted
-        if line.change in doubts and line.change not in undone and line.of["before"] != line.of["after"]:
+        if line.change in doubts and line.change not in undone and line.before != line.after:
             follower = following.get(row)
-            if follower is not None and follower.of["before"] == line.of["after"] and not is_lost:
+            if follower is not None and follower.before == line.after and not is_lost:
                 yield line.change, True
-            elif is_lost and (
-                follower is None or follower.change not in doubts and follower.of["before"] == line.of["before"]
-            ):
+            elif is_lost and (follower is None or follower.change not in doubts and follower.before == line.before):
                 yield line.change, False
         if not is_lost:
             following[row] = line
@@ -126,13 +124,9 @@ def _overtaken(changes: Sequence[Line], doubts: Doubts) -> set[Line]:
     found = {line for line in changes if line.side == "platform" and doubts.get(line.change, True) is None}
     if not found:
         return found
-    others = {
-        (row_of(line), line.of["before"])
-        for line in changes
-        if line not in found and line.of["before"] != line.of["after"]
-    }
+    others = {(row_of(line), line.before) for line in changes if line not in found and line.before != line.after}
     latest = {row_of(line): line for line in changes}
-    return {line for line in found if latest[row_of(line)] is line and (row_of(line), line.of["before"]) in others}
+    return {line for line in found if latest[row_of(line)] is line and (row_of(line), line.before) in others}
 
 
 def _is_lost(line: Line, following: Line | None, is_doubtful: bool, seen: set[tuple[Row, str]]) -> bool:
@@ -140,8 +134,8 @@ def _is_lost(line: Line, following: Line | None, is_doubtful: bool, seen: set[tu
     none, and no request has seen it.
     """
     if following is not None:
-        return bool(following.of["before"] != line.of["after"])
-    return is_doubtful and (row_of(line), line.of["after"]) not in seen
+        return following.before != line.after
+    return is_doubtful and (row_of(line), line.after) not in seen
 
 
 def _made_before(changes: Sequence[Line], unsure: set[Line]) -> set[Line]:
@@ -152,8 +146,8 @@ def _made_before(changes: Sequence[Line], unsure: set[Line]) -> set[Line]:
     latest = {row_of(line): line for line in changes}
     found: set[Line] = set()
     for line in changes:
-        row, after = row_of(line), line.of["after"]
-        if line in unsure and line is not latest[row] and texts.get(row) == after != line.of["before"]:
+        row, after = row_of(line), line.after
+        if line in unsure and line is not latest[row] and texts.get(row) == after != line.before:
             found.add(line)
         texts[row] = after
     return found
@@ -171,12 +165,12 @@ def _chained(lines: list[Line]) -> list[Line]:
         done.add(line)
         found.append(line)
         if line.event == "changed":
-            texts[row_of(line)] = line.of["after"]
+            texts[row_of(line)] = line.after
 
     for at, line in enumerate(lines):
         if line in done:
             continue
-        if line.event == "changed" and row_of(line) in texts and line.of["before"] != texts[row_of(line)]:
+        if line.event == "changed" and row_of(line) in texts and line.before != texts[row_of(line)]:
             earlier = _fitting(lines[at + 1 :], line, texts[row_of(line)], done)
             if earlier is not None:
                 until = lines.index(earlier) + 1
@@ -191,7 +185,7 @@ def _fitting(lines: Iterable[Line], line: Line, text: str, done: set[Line]) -> L
     """The first change of the same row by another process that has found this."""
     for other in lines:
         is_of_row = other.event == "changed" and row_of(other) == row_of(line)
-        if is_of_row and other not in done and other.process != line.process and other.of["before"] == text:
+        if is_of_row and other not in done and other.process != line.process and other.before == text:
             return other
     return None
 
@@ -224,9 +218,10 @@ def _postponed(lines: list[Line], undone: frozenset[Change]) -> list[Line]:
 
 def _seen(line: Line) -> Iterator[tuple[Row, str]]:
     """The rows that a request was decided on, and what it has seen there."""
-    yield (line.side, line.key), line.of["saw"]
-    if line.key and "saw_instance" in line.of:
-        yield (line.side, ""), line.of["saw_instance"]
+    if line.saw is not None:
+        yield (line.side, line.key), line.saw
+    if line.key and line.saw_instance is not None:
+        yield (line.side, ""), line.saw_instance
 
 
 def _unseen(
@@ -239,15 +234,15 @@ def _unseen(
 ) -> Sequence[int]:
     """The changes before a request's arrival that the request hasn't seen, or none if it has seen another one."""
     behind = bisect(changes, begun)
-    if behind == 0 or lines[changes[behind - 1]].of["after"] == saw:
+    if behind == 0 or lines[changes[behind - 1]].after == saw:
         return ()
-    if any(lines[number].of["after"] == saw for number in changes[behind : bisect(changes, end)]):
+    if any(lines[number].after == saw for number in changes[behind : bisect(changes, end)]):
         return ()
     for first in range(behind - 1, -1, -1):
         at = changes[first]
         if lines[at].process != lines[changes[behind - 1]].process or _is_over(lines, arrived, at, begun):
             return ()
-        if lines[at].of["before"] == saw:
+        if lines[at].before == saw:
             return changes[first:behind]
     return ()
 
@@ -272,7 +267,7 @@ def _is_over(lines: Sequence[Line], arrived: Mapping[tuple[str, int], int], at: 
         if arrived.get(line.visit, -1) > at:
             if line.event == "changed" and row_of(line) == row:
                 return True
-            if line.event == "answered" and "saw" in line.of and (row, change.of["after"]) in _seen(line):
+            if line.event == "answered" and "saw" in line.of and (row, change.after) in _seen(line):
                 return True
     return False
 

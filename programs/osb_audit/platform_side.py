@@ -17,6 +17,7 @@ LATE = "requests that were sent after another claim had given them up: judged as
 STATES = "the state of the change isn't that of its record"
 NOT_COME = "the platform takes an answer that has not come"
 BEGUN = "the journal of the platform begins in the middle of its life"
+UPDATED = "its platform updates it, and what a platform records of updates isn't judged"
 
 
 class PlatformSide:
@@ -41,6 +42,9 @@ class PlatformSide:
             self.known.fetches.setdefault(line.key, []).append(line.of["request"])
             self.polls[line.of["request"]] = self.known.life(line.key).record.attempt
         elif line.of.get("attempt"):
+            if line.of["kind"] == "update":
+                self.known.leave(line, UPDATED)
+                return
             life = self.known.life(line.key)
             self._check_out(line, life)
             naming.check_sent(line, self.known.sent[line.of["request"]], life)

@@ -24,11 +24,11 @@ Plan = tuple[str, str]
 NO_ATTRIBUTES = "0" * 64
 """The digest of no attributes."""
 
-_OTHERS = bytes([1] * 32)
+OTHERS = bytes([1] * 32)
 """The digest of other attributes than those of what is held, which stand here as none."""
-_ID, _SERVICE, _PLAN, _OTHER = Id(0, 1), Id(0, 2), Id(0, 3), Id(0, 4)
-_KINDS = {str(kind): kind for kind in Kind}
-_MODES = {"sync": Mode.SYNC, "async": Mode.ASYNC, "none": None}
+ID, SERVICE, PLAN, OTHER = Id(0, 1), Id(0, 2), Id(0, 3), Id(0, 4)
+KINDS = {str(kind): kind for kind in Kind}
+MODES = {"sync": Mode.SYNC, "async": Mode.ASYNC, "none": None}
 _PHASES = {str(phase): phase for phase in Phase}
 _STATES = {str(state): state for state in State}
 _BODIES = {str(body): body for body in Body}
@@ -95,7 +95,7 @@ def held_in(text: str) -> tuple[Held, Terms]:
     try:
         members = json.loads(text)
         row, work = members["row"], members["work"]
-        _check(row is None or row["phase"] in _PHASES, work is None or work["kind"] in _KINDS)
+        _check(row is None or row["phase"] in _PHASES, work is None or work["kind"] in KINDS)
         held = Held(
             row["phase"] if row else "none",
             work["kind"] if work else "-",
@@ -124,15 +124,15 @@ def _check(*rules: bool) -> None:
         raise ValueError
 
 
-def _holding(held: Held) -> Holding:
+def holding_of(held: Held) -> Holding:
     return Holding(
-        BrokerRow(_SERVICE, _PLAN, _PHASES[held.phase]) if held.phase != "none" else None,
-        _request(held.work, held.accepts, True) if held.work != "-" else None,
+        BrokerRow(SERVICE, PLAN, _PHASES[held.phase]) if held.phase != "none" else None,
+        request_of(held.work, held.accepts, True) if held.work != "-" else None,
         held.tombstone,
     )
 
 
-def _held(holding: Holding) -> Held:
+def held_of(holding: Holding) -> Held:
     return Held(
         str(holding.row.phase) if holding.row else "none",
         str(holding.work.kind) if holding.work else "-",
@@ -141,11 +141,11 @@ def _held(holding: Holding) -> Held:
     )
 
 
-def _request(kind: str, accepts: bool, is_same: bool) -> Request:
-    return Request(_KINDS[kind], accepts, _ID, _SERVICE, _PLAN if is_same else _OTHER)
+def request_of(kind: str, accepts: bool, is_same: bool) -> Request:
+    return Request(KINDS[kind], accepts, ID, SERVICE, PLAN if is_same else OTHER)
 
 
-def _said(answer: Answer) -> Said:
+def said_of(answer: Answer) -> Said:
     return answer.status, str(answer.body)
 
 
@@ -160,6 +160,14 @@ class Asked(NamedTuple):
     """Whether it names the plan of the row or of the pending work, if there is one."""
     is_alike: bool = True
     """Whether it has the attributes of the row or of the pending work, if there is one."""
+    is_current: bool = True
+    """Of an instance that was updated, whether a creation asks for the settings that it has. Of a binding, whether its
+    instance has its plan, and no update is under way.
+    """
+    row_mode: str = "none"
+    """Of an instance that was updated, how its first plan creates instances."""
+    is_updated: bool = False
+    """Whether it is about an instance of which an Update was judged."""
 
 
 @lru_cache(maxsize=1 << 14)
@@ -169,41 +177,41 @@ def begun(held: Held, asked: Asked, is_bound: bool, instance: Held | None) -> tu
     `instance` is what is held of the instance of a binding, and None of an instance. `is_bound` is whether one of the
     bindings of an instance is held.
     """
-    holding, mode, rule = _holding(held), _MODES[asked.mode], asked.first_poll
-    request, attributes = _request(asked.kind, asked.accepts, asked.is_same), bytes(32) if asked.is_alike else _OTHERS
+    holding, mode, rule = holding_of(held), MODES[asked.mode], asked.first_poll
+    request, attributes = request_of(asked.kind, asked.accepts, asked.is_same), bytes(32) if asked.is_alike else OTHERS
     try:
         if instance is not None:
-            others = _holding(instance)
+            others = holding_of(instance)
             after, answer = holding.begin_binding(others, mode, request, first_poll=rule, attributes=attributes)
         else:
             free = not is_bound
             after, answer = holding.begin_if(mode, request, may_begin=free, first_poll=rule, attributes=attributes)
     except OsbError:
         return held, None
-    return _held(after), _said(answer) if isinstance(answer, Answer) else None
+    return held_of(after), said_of(answer) if isinstance(answer, Answer) else None
 
 
 @lru_cache(maxsize=1 << 10)
 def fetched(held: Held) -> Said:
     """The answer to a Fetch of a binding."""
-    return _said(_holding(held).fetch())
+    return said_of(holding_of(held).fetch())
 
 
 @lru_cache(maxsize=1 << 12)
 def ended(held: Held, mode: str, how: str) -> tuple[Held, Said] | None:
     """What an end of the pending work leaves, with the answer. None if no work is pending, or none that can end so."""
     try:
-        left, answer = _holding(held).end(_MODES[mode], ENDS[how])
+        left, answer = holding_of(held).end(MODES[mode], ENDS[how])
     except OsbError:
         return None
-    return _held(left), _said(answer)
+    return held_of(left), said_of(answer)
 
 
 @lru_cache(maxsize=1 << 10)
 def finished(held: Held, how: str) -> Held | None:
     """What the end of an operation leaves, `ok` or `fail`. None if no operation runs."""
     try:
-        return _held(_holding(held).finish(how == "ok"))
+        return held_of(holding_of(held).finish(how == "ok"))
     except OsbError:
         return None
 
@@ -257,7 +265,7 @@ def recorded_in(text: str) -> tuple[Recorded, Plan | None]:
     try:
         members = json.loads(text)
         state, out, attempt = members["state"], members["out"], members["attempt"]
-        _check(state in _STATES, out is None or out in _KINDS)
+        _check(state in _STATES, out is None or out in KINDS)
         _check(attempt.__class__ is int and 0 <= attempt <= MOST)
         return Recorded(state, out or "-", attempt), _plan_in(members)
     except (ValueError, TypeError, KeyError, RecursionError) as error:
@@ -265,8 +273,8 @@ def recorded_in(text: str) -> tuple[Recorded, Plan | None]:
 
 
 def _record(recorded: Recorded) -> Record:
-    out = None if recorded.out == "-" else _KINDS[recorded.out]
-    return Record(_SERVICE, _PLAN, recorded.attempt, _STATES[recorded.state], out)
+    out = None if recorded.out == "-" else KINDS[recorded.out]
+    return Record(SERVICE, PLAN, recorded.attempt, _STATES[recorded.state], out)
 
 
 def _recorded(record: Record) -> Recorded:
@@ -286,7 +294,7 @@ def stepped(recorded: Recorded, event: str) -> Recorded | None:
     record = _record(recorded)
     try:
         if event == "send":
-            return _recorded(record.send(_ID)[0])
+            return _recorded(record.send(ID)[0])
         if event == "timeout":
             return _recorded(record.timeout(recorded.attempt))
         return _recorded(getattr(record, event)())

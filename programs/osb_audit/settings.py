@@ -13,6 +13,8 @@ class Sold(NamedTuple):
     mode: str = "none"
     binding: str = "none"
     is_retrievable: bool = False
+    is_fetchable: bool | None = None
+    """Whether an instance can be fetched, or None if the journal is of a version that doesn't say so."""
 
 
 class Settings(NamedTuple):
@@ -46,7 +48,11 @@ def settings_in(text: bytes) -> Settings:
         if not isinstance(plan, dict) or any(name not in plan for name in ("service_number", "plan_number")):
             raise BadLine("a plan in started of a broker has no service_number or no plan_number")
         check(plan, OF_SOLD, "a plan in started of a broker")
-        sold = Sold(plan.get("mode", "none"), plan.get("binding", "none"), plan.get("retrievable", False))
-        plans[plan["service_number"], plan["plan_number"]] = sold
+        plans[plan["service_number"], plan["plan_number"]] = Sold(
+            plan.get("mode", "none"),
+            plan.get("binding", "none"),
+            plan.get("retrievable", False),
+            plan.get("instances_retrievable"),
+        )
     lost = members.get("locks_can_be_lost")
     return Settings(members.get("first_poll") or False, plans, True if lost is None else lost)

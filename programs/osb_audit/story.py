@@ -35,7 +35,10 @@ def story(
     stop = None
     for line in found:
         try:
-            (broker.step if line.side == "broker" else platform.step)(line)
+            if line.side == "broker":
+                broker.step(line)
+            elif known.left is None:
+                platform.step(line)
         except Stopped as stopped:
             stop = stopped.stop
         except NoText as error:

@@ -52,6 +52,8 @@ class Known:
         self.heard: dict[str, Line] = {}
         self.fetches: dict[str, list[str]] = {}
         self.attributes: dict[tuple[str, str], str] = {}
+        self.left: Stop | None = None
+        """From where on the model doesn't judge it any more, and why. Brokers are judged by the tables alone then."""
         for line in lines:
             self._note(line)
 
@@ -112,6 +114,8 @@ class Known:
 
     def attempt(self, visit: Visit) -> int:
         """The number of the request, or 0 if the model doesn't have it."""
+        if self.left is not None:
+            return 0
         if visit.attempt is None:
             sent = self.request_of(visit)
             visit.attempt = sent.attempt if sent and not self.is_altered(visit) else 0
@@ -144,11 +148,16 @@ class Known:
         sold = self.sold(plan)
         return sold.binding if life.is_binding else sold.mode
 
+    def leave(self, line: Line, why: str) -> None:
+        """Has the model judge nothing from this line on."""
+        if self.left is None:
+            self.left = Stop(line.position, False, why)
+
     # ---- events
 
     def emit(self, line: Line, life: Life, words: str, *wanted: tuple[int, str]) -> None:
         """Has an event of a life happen, if the model has it. Its id comes behind the first word."""
-        if life.is_others:
+        if life.is_others or self.left is not None:
             return
         verb, _, rest = words.partition(" ")
         text = f"{verb} {life.name} {rest}" if rest else f"{verb} {life.name}"
@@ -185,8 +194,10 @@ class Known:
         return any(visit.key == key and visit.request not in self.sent for visit in self.visits.values())
 
     def story(self, stop: Stop | None) -> Story:
-        """What the lines have come to."""
-        ends = self.disagreements() if stop is None or stop.is_difference else []
+        """What the lines have come to. A difference counts also where the model doesn't judge any more."""
+        if self.left is not None and (stop is None or not stop.is_difference):
+            stop = self.left
+        ends = self.disagreements() if self.left is None and (stop is None or stop.is_difference) else []
         return Story(self.instance, self.events, stop, ends, dict(self.notes))
 
 
