@@ -168,14 +168,14 @@ def test_conform(texts: list[str], workdir: Workdir, port: int) -> None:
     """Each plan fails only what the page says: the synchronous one, which is tried twice, and the asynchronous one."""
     needs("curl")
     serve, password, first, other, catalogue, own = (here(text, port, workdir) for text in texts)
-    other = shorter(other, "--poll-seconds 0.01 || [ $? = 1 ]")
+    first, own, other = (shorter(line, "--poll-seconds 0.01 || [ $? = 1 ]") for line in (first, own, other))
     out = workdir.run(
         f"{serve.strip()} &\n{healthy(port)}{password}{first}{own}echo --\n{other}{catalogue}kill %1; wait $!"
     )
     passed, _, failed = out.partition("--\n")
-    own_choice, decided = re.findall(r"^\| `([a-z-]+)` \| M[AUSTY]+ \| (?:409|503)", read(STORM), re.M)[::-1]
-    assert passed.count("\npass ") > 80 and set(_FAILED.findall(passed)) == {own_choice}, passed
-    assert set(_FAILED.findall(failed)) == {own_choice, decided}, failed
+    decided, during_update, own_choice = re.findall(r"^\| `([a-z-]+)` \| M[AUSTY]+ \| (?:409|503)", read(STORM), re.M)
+    assert passed.count("\npass ") > 100 and set(_FAILED.findall(passed)) - {during_update} == {own_choice}, passed
+    assert set(_FAILED.findall(failed)) - {during_update} == {own_choice, decided}, failed
     assert (workdir.top / "report.json").exists() and '"services":' in failed
 
 

@@ -218,7 +218,8 @@ def test_go_doc_and_crash_test(texts: list[str], workdir: Workdir) -> None:
     rows = re.findall(r"^\| ((?:`[\w-]+-(?:next|written|running|done)`,? ?)+)\|", read("docs/go.md"), re.MULTILINE)
     named = {name for row in rows for name in re.findall("`(.*?)`", row)}
     tried = set(re.findall(r"--- PASS: TestCrashes/(\S+)", out))
-    assert len(tried) > 10 and named - tried == {"wait-next", "wait-written"} and tried < named
+    untried = {name for name in named - tried if "-update-" not in name}  # osb-broker is killed at those of updates
+    assert len(tried) > 10 and untried == {"wait-next", "wait-written"} and tried < named
 
 
 _PROGRAM = """package main

@@ -69,7 +69,7 @@ def test_broker(texts: list[str], workdir: Workdir, port: int) -> None:
 @covers(
     BROKER,
     "cp examples/broker/databases mine\n",
-    "./osb-broker try ",
+    "./osb-broker try --backend command:./mine --catalog mine.json\n",
     "OSB_BROKER_PASSWORD=secret ./osb-broker serve --state build/mine ",
     "service=$(jq ",
     'ask -X DELETE "$one/service_bindings/',
@@ -91,6 +91,39 @@ def test_backend_of_a_reader(texts: list[str], workdir: Workdir, port: int) -> N
     assert served.endswith("\n{}\n")  # the last ls lists nothing
     ids = re.findall(r'"id": "(\S+)"', (workdir.top / "mine.json").read_text())
     assert len(set(ids)) == 3 and not any(guid.startswith("11111111-") for guid in ids)
+
+
+@covers(
+    BROKER,
+    "cp examples/broker/databases mine\n",
+    "sed -i '/^umask 077$/r ",
+    "./osb-broker try --backend command:./mine --catalog mine.json --update-parameters ",
+    "OSB_BROKER_PASSWORD=secret ./osb-broker serve --state build/mine ",
+    "service=$(jq ",
+    "ask -X PATCH $one ",
+    'ask -X DELETE "$one/service_bindings/',
+)
+def test_updates_of_a_reader(texts: list[str], workdir: Workdir, port: int) -> None:
+    """The example with the calls that update has no mistake. Updates change the parameters of its instance, also to
+    texts with backslashes.
+    """
+    needs("jq")
+    copy, add, attempt, serve, create, update, delete = texts
+    odd = update.replace('"size":20', r'"label":"\n\\\u0007"')
+    served = f"{moved(create, port)}echo --\n{update}{odd}echo --\n{delete}"
+    out = workdir.run(
+        f"{copy}{add}{attempt}echo --\n{moved(serve, port).strip()} &\n{healthy(port)}{served}kill %1; wait $!\n"
+    )
+    tried, created, updated, deleted = out.split("--\n")
+    assert tried.endswith("\n75 ok, 0 failed\n")
+    assert "\nok      look-update instance 1: none\n" in tried  # both settings differ
+    assert statuses(created) == ["201", "201", "200"]
+    assert statuses(updated) == 4 * ["200"]
+    assert [json.loads(text) for text in re.findall(r'"parameters":({.*?})', updated)] == [
+        {"size": 20},
+        {"label": "\n\\\a"},
+    ]
+    assert statuses(deleted) == ["200", "200"]
 
 
 # A Bind of an instance that doesn't exist, and one whose body lacks the ids.
@@ -146,9 +179,9 @@ def test_wrong_arguments_are_found(arguments: str) -> None:
 
 @pytest.mark.usefixtures("platform")
 def test_options_of_the_broker() -> None:
-    """Each option that the guide names is the broker's, or that of a platform which changes its password."""
-    options = set(options_of("".join(help_of("osb-broker", command) for command in ("serve", "try", "rekey"))))
-    options |= set(options_of(help_of("osb-platform", "broker", "set")))
+    """Each option that the guide names is the broker's, or that of a platform which changes its password, or of jq."""
+    options = set(options_of("".join(help_of("osb-broker", command) for command in ("serve", "try", "key", "rekey"))))
+    options |= set(options_of(help_of("osb-platform", "broker", "set"))) | {"--argjson"}  # which is jq's
     named = set(re.findall(r"(?<![\w-])--[a-z][a-z-]*", read(BROKER)))
     assert len(named) > 20
     assert named - options == set()
