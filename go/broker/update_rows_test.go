@@ -4,6 +4,7 @@ import (
 	"context"
 	"encoding/json"
 	"errors"
+	"fmt"
 	"path/filepath"
 	"strings"
 	"testing"
@@ -133,6 +134,45 @@ func TestModeOfAnUpdate(t *testing.T) {
 	change = diff.Value(r.store.Read(context.Background(), key))(t).Change
 	if change.To != nil || change.IsAsynchronous || change.Origin != (broker.Origin{}) {
 		t.Errorf("got %+v, want nothing of an update that has ended", change)
+	}
+}
+
+// A toldStore notes what the drivers of updates say that their transactions are.
+type toldStore struct {
+	*sqlite.Store
+	allowed  []osb.Allowed       // of each beginning
+	outcomes []osb.UpdateOutcome // of each end
+}
+
+func (s *toldStore) Change(ctx context.Context, key broker.Key, step broker.Step) error {
+	err := s.Store.Change(ctx, key, step)
+	it := broker.TransactionOf(ctx)
+	switch effect, _, _ := it.Effect(); effect {
+	case osb.EffectUpdate:
+		s.allowed = append(s.allowed, it.Allowed())
+	case osb.EffectEndUpdate:
+		s.outcomes = append(s.outcomes, it.UpdateOutcome())
+	}
+	return err
+}
+
+// A Store sees what the catalogue had for an Update that begins, and how its work has ended.
+func TestTransactionsOfUpdates(t *testing.T) {
+	r := newRestartedBroker(t)
+	sold := diff.Value(broker.NewCatalogue([]byte(updatingCatalogue), broker.AbilitiesOf(r.backend)))(t)
+	told := &toldStore{Store: r.store}
+	r.service = broker.NewService(sold, told, r.backend, newMemoryLocks(), broker.ServiceOptions{}, broker.Silent{})
+	r.handler = handlerFor(t, r.service)
+	one := instances + "i"
+	r.expect(t, 201, "PUT", one, bodyOf(now, ""))
+	r.expect(t, 200, "PATCH", one, updateOf(`,"parameters":{"a":1}`))
+	r.backend.fails = errors.New("no")
+	r.expect(t, 500, "PATCH", one, updateOf(`,"parameters":{"a":2}`))
+	diff.Equal(t, fmt.Sprint(told.allowed), fmt.Sprint([]osb.Allowed{osb.AllowedSync, osb.AllowedSync}), "allowed")
+	wanted := []osb.UpdateOutcome{osb.UpdateOutcomeDone, osb.UpdateOutcomeBefore}
+	diff.Equal(t, fmt.Sprint(told.outcomes), fmt.Sprint(wanted), "outcomes")
+	if found := broker.TransactionOf(context.Background()); found != nil {
+		t.Errorf("got the transaction %v, want none without a driver", found)
 	}
 }
 
