@@ -818,6 +818,14 @@ var updateSteps = []string{
 	"update instance 1 to an unknown plan, and back", "look-update instance 1: whole",
 }
 
+// Settings without parameters have nil, also if the option is an empty text.
+func TestSettingsWithoutParameters(t *testing.T) {
+	it := &trial{options: Options{Plan: bindable, Parameters: json.RawMessage("")}}
+	if got := it.goal().Parameters; got != nil {
+		t.Errorf("got %q, want nil", got)
+	}
+}
+
 func TestUpdates(t *testing.T) {
 	f := newUpdatingFake(t)
 	found := tries(ctx, t, f, locks{}, Options{Plan: bindable, UpdateTo: &larger})

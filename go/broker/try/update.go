@@ -19,7 +19,11 @@ func (t *trial) updates() (broker.UpdateBackend, bool) {
 
 // settings are those with which an instance is created.
 func (t *trial) settings() broker.Settings {
-	return broker.Settings{PlanID: t.options.Plan.ID, Parameters: t.options.Parameters}
+	settings := broker.Settings{PlanID: t.options.Plan.ID}
+	if len(t.options.Parameters) > 0 {
+		settings.Parameters = t.options.Parameters
+	}
+	return settings
 }
 
 // goal are the settings to which it is updated.

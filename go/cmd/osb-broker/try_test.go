@@ -335,7 +335,7 @@ func TestTryDatabases(t *testing.T) {
 	s := start(t, append([]string{password}, environment...), append([]string{"--state", t.TempDir()}, arguments...)...)
 	s.stop()
 	run = runTry(t, environment, nil, arguments...)
-	if run.status != 0 || run.last() != "52 ok, 0 failed" || strings.Contains(run.stdout, "postgresql://") {
-		t.Errorf("got the status %d and %s%s, want 0, 52 ok and no URL", run.status, run.stdout, run.stderr)
+	if run.status != 0 || run.last() != "75 ok, 0 failed" || strings.Contains(run.stdout, "postgresql://") {
+		t.Errorf("got the status %d and %s%s, want 0, 75 ok and no URL", run.status, run.stdout, run.stderr)
 	}
 }
